@@ -163,7 +163,8 @@ holds_aside d lines below below' a h = record {
   caused = caused_on (seen_of d) (seen_of d) below below' (none_is (seen_of d) (seen_of d) refl) a.lower h.caused;
   written_off = h.written_off;
   housed = h.housed;
-  managed = h.managed; enrolled = h.enrolled;
+  managed = h.managed;
+  enrolled = h.enrolled;
   connected = aside_connected (config_of d.settings) d.clock d.connections (seen_of d).processes below below' a.after a.goes a.clock h.connected;
   flooded = h.flooded;
 }

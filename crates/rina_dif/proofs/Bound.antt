@@ -224,7 +224,8 @@ module _ (d : Dif) (fixed : Fixed) (may : MayBind d fixed) (near other : NextEnd
           caused = bound_caused seen lines below fixed (seen_of d') lines' h.standing bound h.caused;
           written_off = bound_written seen lines fixed (seen_of d') lines' h.written_off bound;
           housed = h.housed;
-          managed = h.managed; enrolled = h.enrolled;
+          managed = h.managed;
+          enrolled = h.enrolled;
           connected = h.connected;
           flooded = h.flooded;
         };

@@ -92,7 +92,8 @@ holds_claimed d waiting lines below h = (let st = h.standing in record {
   caused = h.caused;
   written_off = λ i m p off is. h.written_off i m p off (record { is_member = is.is_member; is_process = is.is_process });
   housed = h.housed;
-  managed = h.managed; enrolled = h.enrolled;
+  managed = h.managed;
+  enrolled = h.enrolled;
   connected = h.connected;
   flooded = h.flooded;
 })

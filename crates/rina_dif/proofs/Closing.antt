@@ -82,7 +82,8 @@ served_holds d lines below i p p' c' manage h is room same serves written connec
       caused = process_caused (seen_of d) (seen_of e) below i (process_of p') seen h.caused;
       written_off = subst AreWrittenOff (sym seen) written;
       housed = house.housed;
-      managed = house.managed; enrolled = h.enrolled;
+      managed = house.managed;
+      enrolled = h.enrolled;
       connected = subst (λ (z : DifSeen). AreConnected (config_of d.settings) d.clock c' z.processes below) (sym seen) connected;
       flooded = floods;
     }

@@ -184,7 +184,8 @@ last_fails d at node lost port loss links flows p p' g' place_is clock_is lt her
         caused = failed_caused (seen_of mid) lines below node l.link.port (seen_of d') (failed_below (seen_of d) lines below at node lost.place (process_of l.process) l.link h.standing here (shown_at d at l.process l.is_process) l.stands told.1.failed) holds.caused by;
         written_off = failed_written (seen_of mid) lines below node l.link.port (seen_of d') holds.standing holds.numbered holds.written_off by;
         housed = house.housed;
-        managed = house.managed; enrolled = holds.enrolled;
+        managed = house.managed;
+        enrolled = holds.enrolled;
         connected = kept_by (config_of d.settings) d.clock mid.connections (seen_of mid).processes (seen_of d').processes below (λ may. failing_leaves (seen_of mid) lines node l.link.port (seen_of d') by) holds.connected;
         flooded = holds.flooded;
       },

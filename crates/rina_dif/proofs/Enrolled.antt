@@ -183,10 +183,10 @@ pub starts_known : (is_static : Bool) (cubes : List Cube) (s : Settings) (plans 
 starts_known is_static cubes s plans rules allow ps ms nodes are aligned so nodes_are unfixed =
     let f : Kept → Bool = λ m. starts_enrolled is_static s.members m.addr in
     let states : states_of ms ≡ map (λ (m : Kept). state_from (f m)) s.members = begun_states f s.members ms so.aligned (λ k m g is_m is_g.
-        let within = slice_get_within s.members k m is_m in
-        let p = there ps k (omega (arith, within, aligned)) in
-        let one = so.each k m p.0 g is_m p.1 is_g in
-        ap state_in one.is ∙ started_state is_static s.members plans one.access m p.0.links) in
+    let within = slice_get_within s.members k m is_m in
+    let p = there ps k (omega (arith, within, aligned)) in
+    let one = so.each k m p.0 g is_m p.1 is_g in
+    ap state_in one.is ∙ started_state is_static s.members plans one.access m p.0.links) in
     subst (λ (ss : List MemberState). AreEnrolledBy is_static s.members s.admits ss nodes) (sym states) (record {
       nodes = nodes_are ∙ ap (λ (members : List Kept). map (λ (m : Kept). m.node) members) (sym (first_kept is_static s s.members refl are)) ∙ sym (tested_nodes f s.members);
       all = all_states is_static s.members;

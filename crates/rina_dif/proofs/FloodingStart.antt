@@ -109,7 +109,6 @@ no_ends : (channels : List Channel) → map (λ (x : Channel). x.port) channels 
 no_ends [] none = refl
 no_ends (x ∷ channels) none = absurd cc
 
-
 plan_first : (plan : Plan) (i : ℕ) (dif : DifPlan) (d : Dif) (old new : Seen) (ports : List (Port × Port)) (linked : List IpcProcess) → IsPlan plan → slice_get plan.difs i ≡ Some dif → AreLaid plan dif d.settings dif.links old new ports linked → AreStarted dif.is_static d.settings.cubes d.settings.members dif.links dif.rules dif.allow (length d.settings.members) linked d.managements
     → AreFirst dif.is_static d.settings.members dif.links (agents_of d.managements)
 plan_first plan i dif d old new ports linked sound at laid so = record {

@@ -111,7 +111,8 @@ closes d i at end (Ok done) flows ps lt here is allocated stops rest held rests 
         caused = closed_caused (seen_of d) lines below at (seen_of d') ended h.caused;
         written_off = ended_written (seen_of d) lines below at Closed (seen_of d') h.standing h.numbered h.written_off ended;
         housed = house.housed;
-        managed = house.managed; enrolled = h.enrolled;
+        managed = house.managed;
+        enrolled = h.enrolled;
         connected = kept_by (config_of d.settings) d.clock d.connections (seen_of d).processes (seen_of d').processes below (λ may. ending_leaves (seen_of d) lines at Closed (seen_of d') ended) h.connected;
         flooded = h.flooded;
       };
@@ -267,7 +268,8 @@ module _ (d : Dif) (at : ℕ) (end : End) (flows : Flows) (held : List CepIds) (
     caused = subst (λ (z : DifSeen). AreCaused z below) (sym freed_seen) caused;
     written_off = subst AreWrittenOff (sym freed_seen) (λ i m p off it stands. h.written_off i m p off (record { is_member = it.is_member; is_process = it.is_process }) stands);
     housed = h.housed;
-    managed = h.managed; enrolled = h.enrolled;
+    managed = h.managed;
+    enrolled = h.enrolled;
     connected = h.connected;
     flooded = h.flooded;
   }

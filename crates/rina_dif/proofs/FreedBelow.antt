@@ -41,7 +41,8 @@ holds_lifted d lines below below' kept' up clock h = record {
   caused = caused_on (seen_of d) (seen_of d) below below' (none_is (seen_of d) (seen_of d) refl) (lower_later (config_of d.settings) below below' kept' up.later) h.caused;
   written_off = h.written_off;
   housed = h.housed;
-  managed = h.managed; enrolled = h.enrolled;
+  managed = h.managed;
+  enrolled = h.enrolled;
   connected = beside_connected (config_of d.settings) d.clock d.connections (seen_of d).processes below below' kept' up clock h.connected;
   flooded = h.flooded;
 }

@@ -94,7 +94,8 @@ forgets d i at (Ok true) flows ps lt here does lines below h =
           caused = process_caused (seen_of d) (seen_of d') below forgotten.i _ forgotten.new_is h.caused;
           written_off = forgotten_written (seen_of d) lines below at (seen_of d') f.lines' h.standing h.numbered h.written_off forgotten;
           housed = house.housed;
-          managed = house.managed; enrolled = h.enrolled;
+          managed = house.managed;
+          enrolled = h.enrolled;
           connected = kept_by (config_of d.settings) d.clock d.connections (seen_of d).processes (seen_of d').processes below (λ may. forgetting_leaves (seen_of d) lines at (seen_of d') f.lines' forgotten) h.connected;
           flooded = h.flooded;
         };
@@ -140,7 +141,8 @@ gives_up d i at (Ok (Some num)) flows ps lt here does rest held rests gave lines
         caused = given_up_caused (seen_of d) lines below at num.seq (seen_of d') h.standing given h.caused;
         written_off = ended_written (seen_of d) lines below at _ (seen_of d') h.standing h.numbered h.written_off ended;
         housed = house.housed;
-        managed = house.managed; enrolled = h.enrolled;
+        managed = house.managed;
+        enrolled = h.enrolled;
         connected = kept_by (config_of d.settings) d.clock d.connections (seen_of d).processes (seen_of d').processes below (λ may. ending_leaves (seen_of d) lines at _ (seen_of d') ended) h.connected;
         flooded = h.flooded;
       };

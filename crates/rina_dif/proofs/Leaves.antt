@@ -141,7 +141,8 @@ leaves_hold refuses d below at n r ps below' kept kept' lt leaves lines h =
       caused = outs_caused refuses (seen_of d) below at n r (seen_of d') below' kept' h.caused outs;
       written_off = outs_written refuses (seen_of d) lines below at n r (seen_of d') below' h.standing h.written_off outs;
       housed = house.housed;
-      managed = house.managed; enrolled = h.enrolled;
+      managed = house.managed;
+      enrolled = h.enrolled;
       connected = outs_connected refuses (seen_of d) lines d.connections below at n r (seen_of d') below' kept kept' h.standing outs (subst (λ (qs : List IpcProcess). (j k : ℕ) (port : Port) → HasLive (map process_of qs) j k port → HasLive (seen_of d).processes j k port) (sym l.3) (λ j k port live. live_same (seen_of d).processes at (process_of p.0) (process_of l.0) (shown_at d at p.0 p.1) (goes_same refuses (config_of d.settings) d.clock (process_of p.0) below n r (process_of l.0) below' l.1).links j k port (subst (λ (qs : List Process). HasLive qs j k port) (map-set process_of d.processes at l.0) live))) h.connected;
       flooded = h.flooded;
     }

@@ -37,7 +37,8 @@ holds_later d now lines below below' le kept' lifted clock h =
       caused = caused_on (seen_of d) (seen_of d') below below' (none_same (seen_of d) (seen_of d') refl refl refl le) (lower_later (config_of d.settings) below below' kept' lifted.later) h.caused;
       written_off = ticked_written (seen_of d) lines now (seen_of d') lines' h.written_off ticks;
       housed = h.housed;
-      managed = managed_later d.settings.members d.laid.links d.clock now d.processes d.managements le h.managed; enrolled = h.enrolled;
+      managed = managed_later d.settings.members d.laid.links d.clock now d.processes d.managements le h.managed;
+      enrolled = h.enrolled;
       connected = later_connected (config_of d.settings) d.clock now d.connections (seen_of d).processes below below' le kept' lifted clock h.connected;
       flooded = λ alive. time_floods d now le (h.flooded alive);
     }

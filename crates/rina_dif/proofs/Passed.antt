@@ -65,7 +65,8 @@ passes d at flows p lines below h =
         caused = passed_caused (seen_of d) lines below at (seen_of d') o.lines' passed h.caused;
         written_off = passed_written (seen_of d) lines at (seen_of d') o.lines' h.written_off passed;
         housed = h.housed;
-        managed = h.managed; enrolled = h.enrolled;
+        managed = h.managed;
+        enrolled = h.enrolled;
         connected = h.connected;
         flooded = h.flooded;
       };

@@ -216,7 +216,8 @@ acknowledges d lines below i at conn due s flows ps lt here is tells forwards do
         caused = process_caused (seen_of d) (seen_of d') below acknowledged.i acknowledged.process' acknowledged.new_is h.caused;
         written_off = acknowledged_written (seen_of d) lines below at p.cause (seen_of d') a.lines' h.standing h.numbered h.accounted h.written_off acknowledged;
         housed = p.house.housed;
-        managed = p.house.managed; enrolled = h.enrolled;
+        managed = p.house.managed;
+        enrolled = h.enrolled;
         connected = kept_by (config_of d.settings) d.clock d.connections (seen_of d).processes (seen_of d').processes below (λ may. acknowledging_leaves (seen_of d) lines at p.cause (seen_of d') a.lines' may.managed.only acknowledged) h.connected;
         flooded = h.flooded;
       };
@@ -291,7 +292,8 @@ sends_again d lines below i at conn pdu s flows ps lt here is tells forwards doe
         caused = process_caused (seen_of d) (seen_of d') below resent.i resent.process' resent.new_is h.caused;
         written_off = resent_written (seen_of d) lines below at p.cause (seen_of d') a.lines' h.standing h.numbered h.accounted h.written_off resent;
         housed = p.house.housed;
-        managed = p.house.managed; enrolled = h.enrolled;
+        managed = p.house.managed;
+        enrolled = h.enrolled;
         connected = kept_by (config_of d.settings) d.clock d.connections (seen_of d).processes (seen_of d').processes below (λ may. resending_leaves (seen_of d) lines at p.cause (seen_of d') a.lines' may.managed.only resent) h.connected;
         flooded = h.flooded;
       };

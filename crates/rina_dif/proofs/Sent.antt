@@ -289,7 +289,8 @@ sends_made d at sdu way made flows ps a offers puts lines below h =
         caused = offered_caused (seen_of d) lines below at o.parts made.num (seen_of d') o.lines' offer.2 h.caused;
         written_off = offers_written (seen_of d) lines at o.parts (Ok made.num) (seen_of d') o.lines' h.written_off offer;
         housed = kept.housed;
-        managed = kept.managed; enrolled = h.enrolled;
+        managed = kept.managed;
+        enrolled = h.enrolled;
         connected = kept_by (config_of d.settings) d.clock d.connections (seen_of d).processes (seen_of d').processes below (λ may. sends_leave (seen_of d) lines at o.parts (Ok made.num) (seen_of d') o.lines' may.managed.only offer) h.connected;
         flooded = h.flooded;
       };

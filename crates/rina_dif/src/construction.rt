@@ -127,8 +127,7 @@ impl Dif {
         let ports = lay_links(&mut made.processes, alloc, plan, dif, &made.settings, below)?;
         let plans = dif.links.as_slice();
         let rules = dif.rules.as_slice();
-        let managements =
-            made.first_managements(alloc, dif.is_static, plans, rules, dif.allow)?;
+        let managements = made.first_managements(alloc, dif.is_static, plans, rules, dif.allow)?;
         let members = made.settings.members.as_slice();
         route_all(&mut made.processes, alloc, members, managements.as_slice())?;
         made.managements = managements;

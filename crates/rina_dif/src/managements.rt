@@ -12,9 +12,7 @@ use rina_access::{Rule, Rules};
 use rina_base::{Addr, AppName, Cep, Memory, Seq};
 use rina_cube::Cube;
 use rina_data::Member;
-use rina_member::{
-    Management, first_objects, routes_of, start_items, started, starts_enrolled,
-};
+use rina_member::{Management, first_objects, routes_of, start_items, started, starts_enrolled};
 use rina_newest::Newest;
 use rina_plan::LinkPlan;
 use rina_rib::Rib;
@@ -124,6 +122,7 @@ impl Managements {
 }
 
 /// The objects that members show from the start.
+#[derive(Drop)]
 struct FirstObjects {
     /// Those of a member that is enrolled.
     enrolled: Rib,

@@ -68,9 +68,7 @@ fn all_bare(alloc: Global, settings: &Settings) -> Result<Processes, Memory>
 fn nodes_of(alloc: Global, members: &[Member]) -> Result<Seq<Node>, AllocError>
     ensures { IfOk result (λ nodes. nodes ≡ map (λ (m : Member). m.node) members.now) }
 {
-    Ok(Seq::from_vec(
-        members.iter().map(|member| member.node).collect(alloc)?,
-    ))
+    Ok(Seq::from_vec(members.iter().map(|member| member.node).collect(alloc)?))
 }
 
 impl Dif {

@@ -183,7 +183,7 @@ same_texts is_static plans s sent got r same_sent same_got = record {
   short = λ place text has. r.short place text (let P : List (List ℕ) → Type 0 = λ ts. Contains ts text in subst P (same_sent place) has);
 }
 
-alike_run : (plans : List LinkPlan) (s new : MembersSeen) → IsRunOf is_static plans s → new.members ≡ s.members → new.ends ≡ s.ends → new.now ≡ s.now → new.agents ≡ s.agents → AreSame s.sent new.sent → AreSame s.got new.got → IsRunOf is_static plans new
+alike_run : (is_static : Bool) (plans : List LinkPlan) (s new : MembersSeen) → IsRunOf is_static plans s → new.members ≡ s.members → new.ends ≡ s.ends → new.now ≡ s.now → new.agents ≡ s.agents → AreSame s.sent new.sent → AreSame s.got new.got → IsRunOf is_static plans new
 alike_run is_static plans s new r members ends now agents sent got =
     let M : List Member → Type 0 = λ ms. IsRunOf is_static plans (record s { members = ms }) in
     let E : List LinkEnd → Type 0 = λ es. IsRunOf is_static plans (record s { members = new.members; ends = es }) in

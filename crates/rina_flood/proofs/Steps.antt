@@ -1,13 +1,12 @@
 -- The rows, one by one.
-use Rattle.std.proofs.Common.{◌≡◌, ℕ, ◌<◌, ◌^◌, ◌-◌, ◌⊎◌, Bool, true, false, cond, List, ◌∷◌, ◌++◌, Contains, Option, Some, None, nat_lt, refl, sym, ◌∙◌, ap, subst, inl, inr, arith, []}
-use Rattle.std.proofs.lemmas.Bool.{cases_Bool}
+use Rattle.std.proofs.Common.{◌≡◌, ℕ, ◌⊎◌, Bool, true, false, cond, List, ◌∷◌, ◌++◌, Contains, Option, Some, None, refl, sym, ◌∙◌, ap, subst, inl, inr, []}
 use Rattle.rina_newest.specs.declared.item.Item.{Item}
 use Rattle.rina_newest.specs.Newest.{is_newer, kept_at, taken}
 use Rattle.rina_agent.specs.declared.agent.Agent.{Agent}
 use Rattle.rina_agent.specs.declared.message.ManagementMessage.{ManagementMessage}
 use Rattle.rina_agent.specs.declared.state.AgentError.{AgentError}
 use Rattle.rina_agent.specs.Agenda.{waiting_on, floods}
-use Rattle.rina_agent.specs.Counts.{next_of, spent, unless}
+use Rattle.rina_agent.specs.Counts.{spent, unless}
 use Rattle.rina_agent.specs.Enrolled.{IsAtLeast, done}
 use Rattle.rina_agent.specs.Items.{made, stated, took, own_item}
 use Rattle.rina_agent.specs.Neighbours.{link_key, link_state}

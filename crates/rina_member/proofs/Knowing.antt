@@ -3,7 +3,7 @@
 --
 -- Of the fields of `Knows`, `keys` says that each kept item has the key of a member item, of a link state or of a directory entry, so that
 -- the own link state alone claims links of the own address. A DIF is laid out as a plan may lay it out (`IsLaidOut`).
-use Rattle.std.proofs.Common.{◌≡◌, ◌∙◌, ℕ, ◌≤◌, Bool, true, false, cond, List, [], ◌∷◌, Contains, length, map, slice_get, slice_set, Some, None, Ok, refl, sym, ap, subst, arith}
+use Rattle.std.proofs.Common.{◌≡◌, ◌∙◌, ℕ, ◌≤◌, Bool, true, false, cond, List, [], ◌∷◌, Contains, length, map, slice_get, slice_set, Some, Ok, refl, sym, ap, subst, arith}
 use Rattle.std.proofs.lemmas.Bool.{true≢false}
 use Rattle.rina_access.specs.declared.rules.Rules.{Rules}
 use Rattle.rina_graph.specs.declared.graph.Edge.{Edge}

@@ -10,7 +10,7 @@ mod Names
 mod Others
 mod Removing
 mod Shortness
-mod Starting
+pub mod Starting
 mod States
 pub mod Tells
 pub mod TellsEnrolled

@@ -1,5 +1,5 @@
 -- What a member knows once it lost a link.
-use Rattle.std.proofs.Common.{◌≡◌, ◌∙◌, inl, inr, ⊎_elim, ℕ, ◌-◌, ◌^◌, ◌<◌, ◌≤◌, ◌==◌, Bool, true, false, cond, not, nat_lt, List, ◌++◌, Option, Some, None, Result, Ok, Contains, length, map, filter, slice_get, slice_set, refl, sym, ap, subst, arith}
+use Rattle.std.proofs.Common.{◌≡◌, ◌∙◌, inl, inr, ⊎_elim, ℕ, ◌-◌, ◌^◌, ◌<◌, ◌≤◌, Bool, true, false, cond, not, nat_lt, List, ◌++◌, Option, Some, None, Result, Ok, Contains, map, filter, slice_get, slice_set, refl, sym, ap, subst, arith}
 use Rattle.std.specs.Prelude.{find}
 use Rattle.std.proofs.lemmas.Bool.{cases_Bool, ne_eqb, true≢false}
 use Rattle.std.proofs.lemmas.Bool.Decides.{nat_tests}
@@ -16,7 +16,6 @@ use Rattle.rina_route.proofs.Lists.{contains_filter, contains_unmap}
 use Rattle.rina_agent.specs.declared.agent.Agent.{Agent}
 use Rattle.rina_agent.specs.declared.link.Link.{Link as Managed}
 use Rattle.rina_agent.specs.declared.state.AgentError.{AgentError}
-use Rattle.rina_agent.specs.declared.state.AgentError.TheVariants.{CountSpent}
 use Rattle.rina_agent.specs.declared.state.MemberState.TheVariants.{Enrolled}
 use Rattle.rina_agent.specs.Agenda.{without_at}
 use Rattle.rina_agent.specs.Counts.{next_of, spent, unless}

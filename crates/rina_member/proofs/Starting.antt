@@ -2,7 +2,6 @@
 use Rattle.std.proofs.Common.{◌≡◌, ◌∙◌, ◌⊎◌, inl, inr, ⊎_elim, ℕ, ◌≤◌, ◌==◌, Bool, true, false, cond, List, [], ◌∷◌, None, Some, Contains, length, map, refl, sym, ap, subst, arith}
 use Rattle.std.specs.List.{flat_map}
 use Rattle.std.proofs.lemmas.Bool.{eq-eqb}
-use Rattle.std.proofs.lemmas.List.{length-map}
 use Rattle.std.proofs.lemmas.List.Elements.{Contains-append_cases, Contains-append_right}
 use Rattle.std.proofs.lemmas.Option.{none-some}
 use Rattle.rina_access.specs.declared.rules.Rules.{Rules}
@@ -16,13 +15,13 @@ use Rattle.rina_agent.specs.Neighbours.{link_key}
 use Rattle.rina_plan.specs.declared.dif.LinkPlan.{LinkPlan}
 use Rattle.rina_data.specs.declared.link.Link.{Link}
 use Rattle.rina_data.specs.declared.settings.Member.{Member}
-use Rattle.rina_member.specs.Routing.{edge_to, edges_from, edges_of, live_links, live_of, own_link, own_links}
+use Rattle.rina_member.specs.Routing.{edge_to, edges_from, edges_of, live_links, live_of, own_links}
 use Rattle.rina_member.specs.Start.{HasLinksIfStatic, begun, first_enrolled, first_version, items_held, items_taken, managed_link, member_item, neighbour_link, start_items, started, starts_enrolled, state_item, state_items}
 use Rattle.rina_member.specs.Knowing.{AreLive, AreNumbered, ClaimLinks, IsItemKey, IsLaidOut, Knows, SameEdges, all_claims}
 use Rattle.rina_member.proofs.Laying.{can_claim, from_member, of_member, own_within, same_member, small_address, within_own}
 use Rattle.rina_member.proofs.Hops.{Within}
 use Rattle.rina_member.proofs.Items.{from_all, holds, member_claims, not_link, same_address}
-use Rattle.rina_member.proofs.Lists.{any_true, at_place, found, from_flat, into_flat, keeps_all, makes_few}
+use Rattle.rina_member.proofs.Lists.{any_true, at_place, found, from_flat, into_flat, keeps_all}
 use Rattle.rina_member.proofs.States.{start_edges, state_within, within_state}
 
 -- Members that are enrolled from the start

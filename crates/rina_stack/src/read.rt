@@ -88,11 +88,7 @@ fn plan(alloc: Global, sketch: Sketch) -> Result<Plan, Memory>
 
 /// The stack of a table, or the first rule that it breaks. A key that is not listed is told also where memory ran out.
 #[tactic(auto, unfolding(crate::specs::Stack::stack_at))]
-fn stack_of<P: Policies>(
-    alloc: Global,
-    policies: &P,
-    stack: &Value,
-) -> Result<Plan, StackError>
+fn stack_of<P: Policies>(alloc: Global, policies: &P, stack: &Value) -> Result<Plan, StackError>
     ensures read { Gives (λ p. p) result (stack_at (P.knows policies.now) (view stack.now)) }
     ensures memory { IfErr result (λ e. e ≡ StackError.Memory → keys_fault (view stack.now) ≡ None) }
 {

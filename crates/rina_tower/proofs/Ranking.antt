@@ -44,6 +44,7 @@ holds_beside who d lines below below' kept kept' mine alone h =
       written_off = h.written_off;
       housed = h.housed;
       managed = h.managed;
+      enrolled = h.enrolled;
       connected = beside_connected (config_of d.settings) d.clock d.connections (seen_of_dif d).processes below below' kept' up alone.clock h.connected;
       flooded = h.flooded;
     }

@@ -235,7 +235,7 @@ may_bind difs below fixed rank can =
     record {
       dif = m.0;
       is_dif = m.1;
-      may = may_make m.0 fixed (seen_of_difs (now_of below) difs) (rank.standing.number fixed.fac m.0 m.1) (shows difs (seen_of below) fixed.fac m.0 (now_of below) (seen_now below) rank.standing m.1) can;
+      may = may_make m.0 fixed (seen_of_difs (now_of below) difs) (rank_difs difs below rank fixed.fac m.0 m.1) (rank.standing.number fixed.fac m.0 m.1) (shows difs (seen_of below) fixed.fac m.0 (now_of below) (seen_now below) rank.standing m.1) can;
     }
 
 -- the DIF that may make it is the one of that place
