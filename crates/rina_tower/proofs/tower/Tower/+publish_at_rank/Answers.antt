@@ -36,7 +36,7 @@ pub returns-then-r-height-clause-height : goal.returns-then-r-height-clause-heig
 returns-then-r-height-clause-height t c =
     let old = c.in-Rank.rank.value in
     let below = rw c.deref_mut-rank.ensures.value at c.register_ipc_at_top.ensures.below in
-    rw (c.in-Rank.is, c.deref_mut-rank.ensures.value) (ap (λ (n : ℕ). n + 1) (same_height old.below c.register_ipc_at_top.new.self below))
+    rw c.in-Rank.is (ap (λ (n : ℕ). n + 1) (same_height old.below c.register_ipc_at_top.new.self below))
 
 pub returns-else-r-height-clause-valid : goal.returns-else-r-height-clause-valid
 returns-else-r-height-clause-valid t c =
