@@ -1,8 +1,8 @@
 -- Which members of a DIF are enrolled: who they are from the start, that they stay so, and where they are.
-use Rattle.std.proofs.Common.{◌≡◌, ◌∙◌, ℕ, zero, suc, ◌<◌, ◌==◌, ◌||◌, Bool, true, false, cond, List, [], ◌∷◌, Contains, filter, length, map, slice_get, slice_set, Option, Some, None, is_some, option_map, refl, sym, ap, subst, inl, inr, arith}
+use Rattle.std.proofs.Common.{◌≡◌, ◌∙◌, ℕ, suc, ◌<◌, ◌==◌, ◌||◌, Bool, true, false, cond, List, [], ◌∷◌, filter, length, map, slice_get, slice_set, Option, Some, None, option_map, refl, sym, ap, subst, inl, inr, arith}
 use Rattle.std.specs.Prelude.{All}
-use Rattle.std.specs.List.{cons_option, filter_map, list_any, zip}
-use Rattle.std.proofs.lemmas.Bool.{cases_Bool, both_ways, eq-eqb, eqb-true, false≢true}
+use Rattle.std.specs.List.{cons_option, list_any}
+use Rattle.std.proofs.lemmas.Bool.{cases_Bool, eq-eqb, eqb-true, false≢true}
 use Rattle.std.proofs.lemmas.List.{map-set}
 use Rattle.std.proofs.lemmas.Option.{none-some, same_Some, slice_get-map, slice_get_within}
 use Rattle.rina_agent.specs.declared.agent.Agent.{Agent}
@@ -17,19 +17,20 @@ use Rattle.rina_plan.specs.declared.dif.LinkPlan.{LinkPlan}
 use Rattle.rina_data.specs.declared.process.IpcProcess.{IpcProcess}
 use Rattle.rina_data.specs.declared.settings.Member.{Member as Kept}
 use Rattle.rina_data.specs.declared.settings.Settings.{Settings}
-use Rattle.rina_data.specs.Configs.{Member, config_of, member_of}
+use Rattle.rina_data.specs.Configs.{config_of, member_of}
 use Rattle.rina_data.proofs.Finding.{there}
 use Rattle.rina_dif_law.specs.Numbered.{AreMembers}
 use Rattle.rina_dif_law.specs.Sending.{home}
 use Rattle.rina_member.specs.declared.management.Management.{Management}
 use Rattle.rina_member.specs.Managements.{MayHoldEntry}
 use Rattle.rina_member.specs.Start.{first_enrolled, started, starts_enrolled, state_from}
-use Rattle.rina_member.proofs.Lists.{all_of, any_true, at_place, is_there, keeps_all}
+use Rattle.rina_member.proofs.Lists.{all_of, any_true, is_there, keeps_all}
 use Rattle.rina_member.proofs.Starting.{all_enrolled}
 use Rattle.rina_route.proofs.Lists.{contains_unmap}
 use Rattle.rina_dif.specs.declared.dif.Dif.{Dif}
 use Rattle.rina_dif.specs.Changing.{MayHaveEntered}
 use Rattle.rina_dif.specs.Elsewhere.{enrolled_home, home_of}
+use Rattle.rina_dif.specs.Facade.{IsStateAt}
 use Rattle.rina_dif.specs.Holding.{Holds}
 use Rattle.rina_dif.specs.Managing.{AreEnrolledBy, AreStarted, agents_of, enrolled_nodes, node_if_enrolled, states_of}
 
@@ -112,7 +113,7 @@ enrolled_there (m ∷ ms) (s ∷ ss) node h = by_state m s ms ss node (enrolled_
 -- so a member stands there
 pub member_there : (d : Dif) (lines : List Direction) (below : Seen) → Holds d lines below → (node : ℕ) → is_member d.enrolled node ≡ true → list_any (λ (m : Kept). m.node == node) d.settings.members ≡ true
 member_there d lines below h node is =
-    let r = enrolled_there d.settings.members (states_of d.managements) node (ap (λ (ns : List ℕ). is_member ns node) (sym h.enrolled.nodes) ∙ is) in
+    let r = enrolled_there d.settings.members (states_of d.managements) node (ap (λ (ns : List ℕ). is_member ns node) (sym h.enrolled.known) ∙ is) in
     any_true (λ (m : Kept). m.node == node) d.settings.members r.1 (is_there d.settings.members r.0 r.1 r.2) (eq-eqb r.1.node node r.3)
 
 -- the place of the enrolled member at a node is that of the member there
@@ -127,7 +128,7 @@ enrolled_home_is d node at is = home_parts (is_member d.enrolled node) (home_of 
 pub enrolled_here : (d : Dif) (lines : List Direction) (below : Seen) → Holds d lines below → (node at : ℕ) (g : Management) → enrolled_home d node ≡ Some at → ((m : Kept) → slice_get d.settings.members at ≡ Some m → m.node ≡ node) → at < length d.settings.members → slice_get d.managements at ≡ Some g → g.agent.state ≡ Enrolled
 enrolled_here d lines below h node at g here its lt is =
     let parts = enrolled_home_is d node at here in
-    let r = enrolled_there d.settings.members (states_of d.managements) node (ap (λ (ns : List ℕ). is_member ns node) (sym h.enrolled.nodes) ∙ parts.0) in
+    let r = enrolled_there d.settings.members (states_of d.managements) node (ap (λ (ns : List ℕ). is_member ns node) (sym h.enrolled.known) ∙ parts.0) in
     let m = there d.settings.members at lt in
     let seen : (k : ℕ) (x : Kept) → slice_get d.settings.members k ≡ Some x → slice_get (config_of d.settings).members k ≡ Some (member_of x) = λ k x e. slice_get-map member_of d.settings.members k ∙ ap (option_map member_of) e in
     let place : r.0 ≡ at = h.numbered.members.nodes r.0 at (member_of r.1) (member_of m.0) (seen r.0 r.1 r.2) (seen at m.0 m.1) (r.3 ∙ sym (its m.0 m.1)) in
@@ -188,7 +189,12 @@ starts_known is_static cubes s plans rules allow ps ms nodes are aligned so node
     let one = so.each k m p.0 g is_m p.1 is_g in
     ap state_in one.is ∙ started_state is_static s.members plans one.access m p.0.links) in
     subst (λ (ss : List MemberState). AreEnrolledBy is_static s.members s.admits ss nodes) (sym states) (record {
-      nodes = nodes_are ∙ ap (λ (members : List Kept). map (λ (m : Kept). m.node) members) (sym (first_kept is_static s s.members refl are)) ∙ sym (tested_nodes f s.members);
+      known = nodes_are ∙ ap (λ (members : List Kept). map (λ (m : Kept). m.node) members) (sym (first_kept is_static s s.members refl are)) ∙ sym (tested_nodes f s.members);
       all = all_states is_static s.members;
       unfixed = unfixed;
     })
+
+-- What it tells of one
+
+pub state_is : (d : Dif) (node place : ℕ) (g : Management) → home node (config_of d.settings).members ≡ Some place → slice_get d.managements place ≡ Some g → IsStateAt d node g.agent.state
+state_is d node place g here is = record { place = place; at_home = here; management = g; stands = is; is = refl }

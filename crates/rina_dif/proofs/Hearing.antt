@@ -229,7 +229,7 @@ module _ (d : Dif) (i place number : ℕ) (here : IsLinkEnd d i place number) (g
     }
 
     pub turn_run : IsRunOf d.laid.is_static d.laid.links (turn (n + 1) m')
-    turn_run = handles_run d.laid.links (turn n m) (turn (n + 1) m') r turn_event
+    turn_run = handles_run d.laid.is_static d.laid.links (turn n m) (turn (n + 1) m') r turn_event
 
   -- what holds of the member goes on to hold, where it does at each turn
   module _ (Holds' : Management → Type 0) (keeps : (n : ℕ) (m m' : Management) (entry : Entry) → slice_get end.got n ≡ Some entry → HandlesOne d.clock number entry.bytes m m' → IsRunOf d.laid.is_static d.laid.links (turn n m) → Holds' m → Holds' m') where

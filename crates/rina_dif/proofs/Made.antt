@@ -10,7 +10,6 @@ use Rattle.rina_iface.specs.declared.ask.Fixed.{Fixed}
 use Rattle.rina_iface.specs.declared.ends.End.{End}
 use Rattle.rina_iface.specs.Journal.{AreKept}
 use Rattle.rina_iface.specs.Seen.{Seen, end_of}
-use Rattle.rina_plan.specs.declared.dif.LinkPlan.{LinkPlan}
 use Rattle.rina_plan.specs.declared.dif.DifPlan.{DifPlan}
 use Rattle.rina_plan.specs.declared.dif.MemberPlan.{MemberPlan}
 use Rattle.rina_queue.specs.declared.queue.Queued.{Queued}

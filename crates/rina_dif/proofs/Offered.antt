@@ -24,9 +24,11 @@ use Rattle.rina_agent.specs.declared.message.ManagementMessage.TheVariants.{ToMe
 use Rattle.rina_agent.specs.declared.message.Waiting.{Waiting}
 use Rattle.rina_agent.specs.Agenda.{waits_on}
 use Rattle.rina_member.specs.declared.management.Management.{Management}
+use Rattle.rina_member.specs.Knowing.{IsSettled}
 use Rattle.rina_member.specs.Managements.{IsSduOf, with_sent}
 use Rattle.rina_member.proofs.Lists.{found}
 use Rattle.rina_plan.specs.declared.dif.LinkPlan.{LinkPlan}
+use Rattle.rina_data.specs.declared.link.Link.{Link}
 use Rattle.rina_data.specs.declared.process.IpcProcess.{IpcProcess}
 use Rattle.rina_data.specs.declared.settings.Member.{Member}
 use Rattle.rina_data.specs.Configs.{config_of, cube_by}

@@ -215,7 +215,7 @@ is_put d ids way items p p' qos h =
 -- It is accepted
 
 seen_sent : (d : Dif) (flows : Flows) (ps : List IpcProcess) (ends : List End) (processes : List Process) → flows.journal.ends ≡ ends → conns_of flows.conns ≡ conns_of d.flows.conns → map process_of ps ≡ processes → seen_of (record d { processes = ps; flows = flows }) ≡ record (seen_of d) { ends = ends; processes = processes }
-seen_sent d flows ps ends processes es cs is = λ i. record { config = config_of d.settings; manage = d.connections.manage; clock = d.clock; processes = is i; ends = es i; conns = cs i; ids = d.ids; waiting = d.waiting.items; names = d.names }
+seen_sent d flows ps ends processes es cs is = λ i. record { config = config_of d.settings; manage = d.connections.manage; clock = d.clock; processes = is i; ends = es i; conns = cs i; ids = d.ids; waiting = d.waiting.items; names = d.names; enrolled = d.enrolled }
 
 accepted : (d : Dif) (lines : List Direction) (below : Seen) (at : ℕ) (sdu : List ℕ) (way : FirstHop) (made : Made) (flows : Flows) (p' : IpcProcess) (ps : List IpcProcess) → Holds d lines below → (a : IsAdmitted d at sdu way) → (o : Accepts (config_of d.settings) d.clock at sdu d.flows lines made flows) → HasPut way.qos way.link (queued way.left d.clock made.pdus) a.goes.process p' → ps ≡ slice_set d.processes way.home p' → IsOffered (seen_of d) lines at o.parts made.num (seen_of (record d { processes = ps; flows = flows })) o.lines'
 accepted d lines below at sdu way made flows p' ps h a o put new =

@@ -43,7 +43,6 @@ use Rattle.rina_dif.specs.Flooding.{AreFlooding}
 use Rattle.rina_dif.proofs.Enrolled.{all_are, enrolled_on, states_agents, states_entered}
 use Rattle.rina_dif.proofs.Entered.{all_entered, managed_entered}
 use Rattle.rina_dif.proofs.Flooding.{entered_floods, same_agents}
-use Rattle.rina_dif.proofs.Leaves.{has_process}
 use Rattle.rina_dif.proofs.Managed.{changed_agents, managed_shown}
 
 -- with other managements

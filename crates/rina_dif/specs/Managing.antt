@@ -55,7 +55,7 @@ enrolled_nodes members states = filter_map node_if_enrolled (zip members states)
 
 -- the nodes of the enrolled members are these. All members of a static DIF are enrolled; any other DIF has no fixed flows
 pub record AreEnrolledBy (is_static : Bool) (members : List Member) (admits : ℕ) (states : List MemberState) (nodes : List ℕ) : Type 0 where
-  pub nodes : nodes ≡ enrolled_nodes members states
+  pub known : nodes ≡ enrolled_nodes members states
   pub all : is_static ≡ true → All (λ state. state ≡ Enrolled) states
   pub unfixed : is_static ≡ false → admits ≡ 0
 

@@ -39,10 +39,10 @@ pub first_managements-requires-clause-aligned : goal.first_managements-requires-
 first_managements-requires-clause-aligned g c = c.in_ok-ports.ensures.ok.up.aligned
 
 pub first_managements-requires-clause-few : goal.first_managements-requires-clause-few
-first_managements-requires-clause-few g c = (let few = few_rules c.args.plan.now c.args.at c.in-Some.dif.now c.requires.plan c.in-Some.ensures in subst (λ (rs : List Rule). length rs ≤ 256) (sym c.as_slice.ensures) few)
+first_managements-requires-clause-few g c = (let few = few_rules c.args.plan.now c.args.at c.in-Some.dif.now c.requires.plan c.in-Some.ensures in subst (λ (rs : List Rule). length rs ≤ 256) (sym c.as_slice-rules.ensures) few)
 
 pub route_all-requires : goal.route_all-requires
-route_all-requires g c = c.in_ok-ports.ensures.ok.up.aligned ∙ sym c.in_ok-managements.ensures.aligned ∙ ap (λ (gs : List Management). length gs) (sym c.as_slice-2.ensures)
+route_all-requires g c = c.in_ok-ports.ensures.ok.up.aligned ∙ sym c.in_ok-managements.ensures.aligned ∙ ap (λ (gs : List Management). length gs) (sym c.as_slice.ensures)
 
 pub of_links-requires-clause-manage : goal.of_links-requires-clause-manage
 of_links-requires-clause-manage g c = subst (λ (s : Settings). CanManage (config_of s) c.in-Some.dif.now.manage) (sym (c.in_ok-made.ensures.settings ∙ c.in_ok-settings.ensures)) (can_manage c.args.plan.now c.args.at c.in-Some.dif.now c.requires.plan c.in-Some.ensures)
@@ -55,7 +55,7 @@ of_links-requires-clause-links g c =
     let managements = c.in_ok-managements.managements in
     let linked = c.lay_links.new.processes in
     let are : made.settings ≡ _ = c.in_ok-made.ensures.settings ∙ c.in_ok-settings.ensures in
-    let routed = same_routed c.as_slice-members.result.now made.settings.members c.as_slice-2.result.now managements linked c.route_all.new.processes c.as_slice-members.ensures c.as_slice-2.ensures c.in_ok-route_all.ensures in
+    let routed = same_routed c.as_slice-members.result.now made.settings.members c.as_slice.result.now managements linked c.route_all.new.processes c.as_slice-members.ensures c.as_slice.ensures c.in_ok-route_all.ensures in
     let links = are_links c.args.plan.now c.args.at dif made.settings made.clock (seen c.args.below.now) (seen c.lay_links.new.below) c.in_ok-ports.ports managements linked c.route_all.new.processes c.requires.plan c.in-Some.ensures are (c.in_ok-made.ensures.clock ∙ c.now.ensures) c.lay_links.ensures.laid c.in_ok-ports.ensures.ok routed in
     (seen c.lay_links.new.below, subst (λ (ps : List (Port × Port)). AreLinks made.settings made.clock ps c.route_all.new.processes (seen c.lay_links.new.below)) (sym c.as_slice-links.ensures) links)
 
@@ -69,8 +69,8 @@ returns-clause-stands g c =
     let seen = g.F.Facility.seen in
     let are : made.settings ≡ _ = c.in_ok-made.ensures.settings ∙ c.in_ok-settings.ensures in
     let free = c.requires.can.free made.settings (its_settings c.args.plan.now c.args.at dif made.settings c.in-Some.ensures are) in
-    let started = same_started dif.is_static made.settings.cubes made.settings.cubes made.settings.members made.settings.members c.as_slice-plans.result.now dif.links c.as_slice.result.now dif.rules dif.allow linked managements refl refl c.as_slice-plans.ensures c.as_slice.ensures c.in_ok-managements.ensures in
-    let routed = same_routed c.as_slice-members.result.now made.settings.members c.as_slice-2.result.now managements linked c.route_all.new.processes c.as_slice-members.ensures c.as_slice-2.ensures c.in_ok-route_all.ensures in
+    let started = same_started dif.is_static made.settings.cubes made.settings.cubes made.settings.members made.settings.members c.as_slice-plans.result.now dif.links c.as_slice-rules.result.now dif.rules dif.allow linked managements refl refl c.as_slice-plans.ensures c.as_slice-rules.ensures c.in_ok-managements.ensures in
+    let routed = same_routed c.as_slice-members.result.now made.settings.members c.as_slice.result.now managements linked c.route_all.new.processes c.as_slice-members.ensures c.as_slice.ensures c.in_ok-route_all.ensures in
     let links = are_links c.args.plan.now c.args.at dif made.settings made.clock (seen c.args.below.now) (seen c.lay_links.new.below) c.in_ok-ports.ports managements linked c.route_all.new.processes c.requires.plan c.in-Some.ensures are (c.in_ok-made.ensures.clock ∙ c.now.ensures) c.lay_links.ensures.laid c.in_ok-ports.ensures.ok routed in
     let same = c.as_slice-links.ensures in
     let connected = c.in_ok-connections.ensures.stand (seen c.lay_links.new.below) (subst (λ (ps : List (Port × Port)). AreLinks made.settings made.clock ps c.route_all.new.processes (seen c.lay_links.new.below)) (sym same) links) in
@@ -90,8 +90,8 @@ returns-clause-exact g c =
     let managements = c.in_ok-managements.managements in
     let linked = c.lay_links.new.processes in
     let seen = g.F.Facility.seen in
-    let started = same_started dif.is_static made.settings.cubes made.settings.cubes made.settings.members made.settings.members c.as_slice-plans.result.now dif.links c.as_slice.result.now dif.rules dif.allow linked managements refl refl c.as_slice-plans.ensures c.as_slice.ensures c.in_ok-managements.ensures in
-    let routed = same_routed c.as_slice-members.result.now made.settings.members c.as_slice-2.result.now managements linked c.route_all.new.processes c.as_slice-members.ensures c.as_slice-2.ensures c.in_ok-route_all.ensures in
+    let started = same_started dif.is_static made.settings.cubes made.settings.cubes made.settings.members made.settings.members c.as_slice-plans.result.now dif.links c.as_slice-rules.result.now dif.rules dif.allow linked managements refl refl c.as_slice-plans.ensures c.as_slice-rules.ensures c.in_ok-managements.ensures in
+    let routed = same_routed c.as_slice-members.result.now made.settings.members c.as_slice.result.now managements linked c.route_all.new.processes c.as_slice-members.ensures c.as_slice.ensures c.in_ok-route_all.ensures in
     made_new c.args.plan.now c.args.at dif (record made { processes = c.route_all.new.processes; managements = managements; laid = c.in_ok-made-2.field-0; connections = c.in_ok-connections.connections }) (seen c.args.below.now) (seen c.lay_links.new.below) c.requires.plan c.in-Some.ensures (c.in_ok-made.ensures.settings ∙ c.in_ok-settings.ensures) (c.in_ok-made.ensures.clock ∙ c.now.ensures) c.in_ok-made.ensures.alive bare.ends bare.conns bare.waiting bare.names c.in_ok-ports.ports linked c.in_ok-made.ensures.named c.in_ok-ports.ensures.ok started routed c.in_ok-made.ensures.enrolled
 
 pub returns-clause-whole : goal.returns-clause-whole
