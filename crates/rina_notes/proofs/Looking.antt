@@ -241,8 +241,8 @@ module _ {X Y : Type 0} where
   each_none : (f : X → List Y) (xs : List X) (i : ℕ) (x : X) → slice_get xs i ≡ Some x → flat_map f xs ≡ [] → f x ≡ []
   each_none f [] i x at none = cc
   each_none f (y ∷ xs) zero x at none =
-    let same : y ≡ x = cc in
-    subst (λ (z : X). f z ≡ []) same (both_none (f y) (flat_map f xs) (sym (flat_map-cons f y xs) ∙ none)).0
+      let same : y ≡ x = cc in
+      subst (λ (z : X). f z ≡ []) same (both_none (f y) (flat_map f xs) (sym (flat_map-cons f y xs) ∙ none)).0
   each_none f (y ∷ xs) (suc i) x at none = each_none f xs i x at (both_none (f y) (flat_map f xs) (sym (flat_map-cons f y xs) ∙ none)).1
 
 pub some_note : (plan : Plan) (line : ℕ) (t : Tower) (ls : List Label) (start : List Note) (i : ℕ) (now : List Label) (trace : List Note) → i < length now → HaveTold plan line t ls start i now trace → ((l : Label) → slice_get now i ≡ Some l → label_notes plan line t l ≢ []) → state_notes plan line t ls ≢ []

@@ -1,5 +1,5 @@
 -- Events of a wire that take no memory answer no want of it.
-use Rattle.std.proofs.Common.{◌≡◌, ℕ, ◌+◌, nat_le, Bool, true, false, Option, Some, None, Result, Err, if◌then◌else◌, sym, ◌∙◌}
+use Rattle.std.proofs.Common.{◌≡◌, ◌≢◌, ℕ, ◌+◌, nat_le, Bool, true, false, Option, Some, None, Result, Err, if◌then◌else◌, subst}
 use Rattle.rina_wire.specs.declared.event.WireError.{WireError}
 use Rattle.rina_wire.specs.declared.event.WireError.TheVariants.{Memory, EarlyHold, LateHold}
 use Rattle.rina_wire.specs.declared.flight.Flight.{Flight}
@@ -47,14 +47,14 @@ move_refuses : (now frame at : ℕ) (o : Option Line) → move_refusal_on now fr
 move_refuses now frame at None is = cc
 move_refuses now frame at (Some l) is = copy_refuses frame (at_refusal now l.life at) (at_refuses now l.life at) (first_copy frame l.flights) is
 
-pub loses : (wire frame : ℕ) (t t' : Tower) → Loses wire frame (Err Memory) t t' → ⊥
-loses wire frame t t' h = nowhere _ (λ a a' p. lose_refuses frame (wire_at a wire) p.refused) t t' h
+pub loses : (wire frame : ℕ) (r : Result (Unit {0}) WireError) (t t' : Tower) → Loses wire frame r t t' → r ≢ Err Memory
+loses wire frame r t t' h = λ is. nowhere _ (λ a a' p. lose_refuses frame (wire_at a wire) p.refused) t t' (subst (λ x. Loses wire frame x t t') is h)
 
-pub holds : (wire frame at : ℕ) (t t' : Tower) → HoldsBack wire frame at (Err Memory) t t' → ⊥
-holds wire frame at t t' h = nowhere _ (λ a a' p. move_refuses a.now frame at (wire_at a wire) p.refused) t t' h
+pub holds : (wire frame at : ℕ) (r : Result (Unit {0}) WireError) (t t' : Tower) → HoldsBack wire frame at r t t' → r ≢ Err Memory
+holds wire frame at r t t' h = λ is. nowhere _ (λ a a' p. move_refuses a.now frame at (wire_at a wire) p.refused) t t' (subst (λ x. HoldsBack wire frame at x t t') is h)
 
-pub cuts : (wire : ℕ) (t t' : Tower) → Cuts wire (Err Memory) t t' → ⊥
-cuts wire t t' h = nowhere _ (λ a a' p. cut_refuses (wire_at a wire) p.refused) t t' h
+pub cuts : (wire : ℕ) (r : Result (Unit {0}) WireError) (t t' : Tower) → Cuts wire r t t' → r ≢ Err Memory
+cuts wire r t t' h = λ is. nowhere _ (λ a a' p. cut_refuses (wire_at a wire) p.refused) t t' (subst (λ x. Cuts wire x t t') is h)
 
-pub mends : (wire : ℕ) (t t' : Tower) → Mends wire (Err Memory) t t' → ⊥
-mends wire t t' h = nowhere _ (λ a a' p. cut_refuses (wire_at a wire) p.refused) t t' h
+pub mends : (wire : ℕ) (r : Result (Unit {0}) WireError) (t t' : Tower) → Mends wire r t t' → r ≢ Err Memory
+mends wire r t t' h = λ is. nowhere _ (λ a a' p. cut_refuses (wire_at a wire) p.refused) t t' (subst (λ x. Mends wire x t t') is h)

@@ -3,7 +3,6 @@ ghost use Rattle.std.specs.Prelude.{◌≡◌, ◌∷◌, ◌++◌, [], None, So
 ghost use Rattle.rina_words.specs.Step.{Registering, Allocating, Accepting, Sending, CallsRegister, CallsAllocate, CallsIncoming, CallsSend, port_answer, label_of, asked};
 ghost use Rattle.rina_stack.specs.Plan.{IsPlan};
 ghost use Rattle.rina_tower.specs.Stands.{IsTower};
-
 ghost use Rattle.rina_notes.specs.Copying.{copies_drawn};
 ghost use Rattle.rina_notes.specs.Look.{state_at};
 ghost use Rattle.rina_notes.specs.Sites.{label_in, port_in, site_at};

@@ -78,13 +78,7 @@ fn call_repeat(
 }
 
 /// The word `hold`.
-pub fn hold(
-    plan: &Plan,
-    run: &mut Run,
-    wire: &Name,
-    frame: u32,
-    at: Tick,
-) -> Option<Answer>
+pub fn hold(plan: &Plan, run: &mut Run, wire: &Name, frame: u32, at: Tick) -> Option<Answer>
     requires plan { IsPlan plan.now }
     requires sound { IsTower run.old.tower }
     ensures does { Holding plan.now wire.now frame at run.old result run.new }
