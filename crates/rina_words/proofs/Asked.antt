@@ -1,5 +1,5 @@
 -- Lines that ask for something.
-use Rattle.std.proofs.Common.{◌≡◌, ◌≢◌, ℕ, ◌==◌, Bool, true, false, List, slice_index, Option, Some, None, Result, Ok, Err, if◌then◌else◌, sym}
+use Rattle.std.proofs.Common.{◌≡◌, ◌≢◌, ℕ, ◌==◌, Bool, true, false, List, slice_index, Option, Some, None, Result, Ok, Err, IfErr, if◌then◌else◌, sym}
 use Rattle.rina_base.specs.Traverse.{◌>>=◌}
 use Rattle.rina_schedule.specs.declared.error.LineError.{LineError}
 use Rattle.rina_schedule.specs.declared.error.LineError.TheVariants as errors
@@ -40,3 +40,8 @@ asks_by (Some v) text w is never h = asks_if (is_built_word v) text never h
 pub asks_something : (text w : List ℕ) → Some w ≡ word_of (next_of text) → event_at text ≢ Ok None
 unfolding event_at
 asks_something text w is = λ h. asks_by (word_of (next_of text)) text w (sym is) (line_asks text w (sym is)) h
+
+-- so want of memory is told of such a line alone
+pub only_asking : (text w : List ℕ) (r : Result (Option Event) LineError) → Some w ≡ word_of (next_of text) → IfErr r (λ e. e ≡ errors.Memory → event_at text ≢ Ok None)
+only_asking text w (Ok event) is = tt
+only_asking text w (Err e) is = λ memory. asks_something text w is
