@@ -1,19 +1,20 @@
 -- Lines that are run one after the other.
-use Rattle.std.proofs.Common.{◌≡◌, ℕ, ◌+◌, ◌≤◌, List, [], ◌∷◌, ◌++◌, length, map, slice_get, take, length-append, Option, Some, Err, ◌⊎◌, inl, inr, refl, sym, ap, ◌∙◌, arith, append_assoc, add-zero, subst}
+use Rattle.std.proofs.Common.{◌≡◌, ℕ, ◌+◌, ◌≤◌, List, [], ◌∷◌, ◌++◌, length, map, slice_get, take, length-append, Option, Some, None, Ok, Err, ◌⊎◌, inl, inr, refl, sym, ap, ◌∙◌, arith, append_assoc, add-zero, subst}
 use Rattle.std.proofs.lemmas.List.{append-nil, length-map, map-append, take_all}
 use Rattle.std.proofs.Math.Seq.{take-append_seam}
 use Rattle.bstr.specs.Text.{without_terminator}
 use Rattle.rina_report.specs.declared.note.Note.{Note}
 use Rattle.rina_schedule.specs.declared.error.LineError.{LineError}
+use Rattle.rina_schedule.specs.declared.event.Event.{Event}
 use Rattle.rina_stack.specs.declared.plan.Plan.{Plan}
 use Rattle.rina_run.specs.declared.output.Stop.{Stop}
 use Rattle.rina_run.specs.declared.output.Stop.TheVariants as stops
 use Rattle.rina_words.specs.Built.{event_at}
 use Rattle.rina_notes.specs.Look.{Leads, Extends}
-use Rattle.rina_words.specs.Step.{Stage}
+use Rattle.rina_words.specs.Step.{Stage, Steps}
 use Rattle.rina_io.specs.Reader.{Reader}
 use Rattle.rina_run.specs.Reading.{Broken, Ending, Enough, IsFine, IsUnbroken, Lost, Whole}
-use Rattle.rina_run.specs.Run.{Asks, LineDoes, LineRan, LinesRan, IsBad, RanFirst, Runs, StopsAt}
+use Rattle.rina_run.specs.Run.{Asks, LineDoes, LineRan, LinesRan, IsBad, Ran, RanFirst, Runs, StopsAt}
 use Rattle.rina_run.proofs.ReadOn.{ReadSoFar, none_so_far}
 
 -- the notes before, where the trace went on
@@ -90,6 +91,14 @@ stops_at plan w u v ls line text number e ns after number_is text_is runs bad = 
   read = rw (sym text_is) bad.read;
   runs = rw (bad.same, bad.trace) runs;
 }
+
+asks_event : (line : List ℕ) (event : Event) → event_at line ≡ Ok (Some event) → Asks line
+asks_event line event is = λ none. (let same : Ok (Some event) ≡ Ok None = sym is ∙ none in cc)
+
+-- what a line asks for stopped
+pub stopped_line : (plan : Plan) (number : ℕ) (line : List ℕ) (event : Event) (s s' : Stage) (old new : List Note) (e : Stop) → event_at line ≡ Ok (Some event) → Ran {Unit {0}} (λ ns. Steps plan number event s ns s') old new (Err e) → LineRan plan number line s old s' new (Err e)
+stopped_line plan number line event s s' old new stops.Memory is ran = (asks_event line event is, rw is ran)
+stopped_line plan number line event s s' old new stops.WriteFault is ran = rw is ran
 
 -- memory was not found in the next line, which told nothing or all of its notes
 memory_in : (plan : Plan) (w u v : Stage) (ls : List (List ℕ)) (line text : List ℕ) (number : ℕ) (ns after : List Note) → number ≡ length ls → text ≡ without_terminator line → Runs plan 1 w (texts_of ls) ns u → Asks text → (after ≡ ns) ⊎ Leads (λ ms. LineDoes plan (number + 1) (event_at text) u ms v) ns after → (reached : Stage) × RanFirst plan w (texts_of (ls ++ line ∷ [])) after reached
