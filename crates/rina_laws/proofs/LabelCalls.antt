@@ -24,6 +24,7 @@ use Rattle.rina_wire.proofs.Seen.{seen_registers}
 use Rattle.rina_dif.specs.Registering.{register_refusal, unregister_refusal}
 use Rattle.rina_tower.specs.declared.applications.AppError.{AppError}
 use Rattle.rina_tower.specs.declared.applications.AppError.TheVariants as apps
+use Rattle.rina_tower.specs.declared.publish.PublishError.{PublishError}
 use Rattle.rina_tower.specs.declared.tower.Tower.{Tower, Rank', Wires}
 use Rattle.rina_tower.specs.Applications.{Answers, AppFrees, AppRegisters, AppUnregisters, is_ipc_at}
 use Rattle.rina_tower.specs.Bystanders.{is_ipc}
@@ -31,7 +32,9 @@ use Rattle.rina_tower.specs.Calls.{FreesAtTop, RegistersAtTop, Serves, Unregiste
 use Rattle.rina_tower.specs.Ranks.{fac_of_dif, height_of, rank_of, seen_of, seen_of_difs}
 use Rattle.rina_tower.specs.Stands.{IsTower}
 use Rattle.rina_tower.specs.Levels.{AtRank}
+use Rattle.rina_tower.specs.Publishing.{PublishesAt}
 use Rattle.rina_tower.proofs.Ranking.{shown_after}
+use Rattle.rina_laws.proofs.Published.{MayRegister, published}
 use Rattle.rina_laws.proofs.LabelRanks.{AtAll, IsAlone, IsIdle, alone_refl, at_rank, at_top, facs_of, level, rank_kept, shown}
 use Rattle.rina_laws.proofs.LabelRests.{Rest, RestEnds, Rests, ends_on, ends_set, fac_same, rest_same, rest_set, rests_still}
 
@@ -154,3 +157,10 @@ app_unregisters r fac node app x t t' v d = call_rests r _ _ t t' v (λ u u' k w
 
 pub app_frees : (r : ℕ) (port : Port) (x : Result (Unit {0}) (AppError FreeError)) (t t' : Tower) → IsTower t → AppFrees r port x t t' → AllRest t t'
 app_frees r port x t t' v d = call_rests r _ _ t t' v (λ u u' k w. answered (is_ipc_at (seen_of u) port) (λ y. FreesAtTop port y u u') u u' x (λ y z. rests_free port y u u' k z) w) d
+
+rests_registered : (fac node : ℕ) (u u' : Tower) → MayRegister fac node u u' → RestsHere u u'
+rests_registered fac node u u' (inl w) = rests_nothing u u' w
+rests_registered fac node u u' (inr (name, x, w)) = rests_register fac node name x u u' w
+
+pub publishes : (r dif node fac : ℕ) (x : Result (Unit {0}) PublishError) (t t' : Tower) → IsTower t → PublishesAt r dif node fac x t t' → AllRest t t'
+publishes r dif node fac x t t' v d = (let k = published r dif node fac x t t' d in call_rests k.rank _ _ t t' v (λ u u' s w. rests_registered fac node u u' w) k.done)

@@ -23,12 +23,12 @@ use Rattle.rina_words.specs.Built.{event_at}
 use Rattle.rina_notes.specs.Look.{ends_at, noted, state_notes}
 use Rattle.rina_run.specs.Run.{LineDoes, Runs}
 use Rattle.rina_notes.specs.Sites.{dif_site_at, fac_named, port_in, site_at}
-use Rattle.rina_words.specs.Step.{Accounting, Acts, ActsOnRun, Showing, ShowingRib, Stage, Steps, journal_notes, ledger_notes, retire_answer, rib_notes, rounds_after, wire_of}
+use Rattle.rina_words.specs.Step.{Accounting, Acts, ActsOnRun, Showing, ShowingRib, Stage, Steps, journal_notes, ledger_notes, number_below, retire_answer, rib_notes, rounds_after, wire_of}
 use Rattle.rina_laws.specs.Labels.{event_by}
 use Rattle.rina_laws.proofs.LabelKeeps.{keeps_looked, keeps_same}
 use Rattle.rina_laws.proofs.LabelNotes.{IsDumb, IsQuiet, IsTelling, after, after_quiet, quiet_as, quiet_dumb, quiet_journal, quiet_ledger, quiet_rib, quiet_states}
 use Rattle.rina_laws.proofs.LabelReads.{read_at, send_at, ticking_keep}
-use Rattle.rina_laws.proofs.LabelWords.{Holds, holds_same, keeps_accept, keeps_allocate, keeps_cdap, keeps_clock, keeps_cut, keeps_free, keeps_hold, keeps_in, keeps_lose, keeps_mend, keeps_once, keeps_out, keeps_register, keeps_repeat, keeps_rounds, keeps_state, keeps_unregister}
+use Rattle.rina_laws.proofs.LabelWords.{Holds, holds_same, keeps_accept, keeps_allocate, keeps_cdap, keeps_clock, keeps_cut, keeps_free, keeps_hold, keeps_in, keeps_lose, keeps_member, keeps_mend, keeps_once, keeps_out, keeps_publish, keeps_register, keeps_repeat, keeps_rounds, keeps_state, keeps_unregister}
 
 -- a word that is none of these tells nothing
 quiet_says : {X : Type 0} (V : End → List X) (by : List ℕ → Note → List X) (told : List ℕ → List X) (number : ℕ) (says : Option Answer) (ns : List Note) (w : Run) → IsDumb by number → ns ≡ noted number (now_of w.tower) says → Holds V told w → Holds V (after by told ns) w
@@ -67,6 +67,9 @@ words_keep lines V by sent got told plan number (events.Journal fac) w ns w' t i
 words_keep lines V by sent got told plan number (events.Ledger dif node) w ns w' t is v a k = accounting_keep V by told plan number (dif_site_at plan dif node) w ns w' (t.others number (events.Ledger dif node) is tt) a k
 words_keep lines V by sent got told plan number (events.Cdap dif node bytes) w ns w' t is v a k = quiet_says V by told number a.says ns w' (t.others number (events.Cdap dif node bytes) is tt) a.notes (keeps_cdap V told bytes w (dif_site_at plan dif node) a.says w' t.view a.does k)
 words_keep lines V by sent got told plan number (events.Rib dif node path) w ns w' t is v a k = rib_keep V by told number path (dif_site_at plan dif node) w ns w' (t.others number (events.Rib dif node path) is tt) a k
+words_keep lines V by sent got told plan number (events.Publish dif node fac) w ns w' t is v a k =
+    quiet_says V by told number a.says ns w' (t.others number (events.Publish dif node fac) is tt) a.notes (keeps_publish V told (λ (site : Site). number_below site.rank (fac_named plan fac)) w (dif_site_at plan dif node) a.says w' t.view v a.does k)
+words_keep lines V by sent got told plan number (events.Member dif node) w ns w' t is v a k = quiet_says V by told number a.says ns w' (t.others number (events.Member dif node) is tt) a.notes (keeps_member V told w (dif_site_at plan dif node) a.says w' a.does k)
 words_keep lines V by sent got told plan number event w ns w' t is v a k = absurd a.does
 
 acts_keep : {X : Type 0} (lines : List (List ℕ)) (V : End → List X) (by : List ℕ → Note → List X) (sent got : Entry → List X) (told : List ℕ → List X) (plan : Plan) (number : ℕ) (event : Event) (s : Stage) (ns : List Note) (s' : Stage)

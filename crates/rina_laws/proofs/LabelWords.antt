@@ -22,8 +22,8 @@ use Rattle.rina_notes.specs.declared.label.Label.{Label}
 use Rattle.rina_notes.specs.declared.site.Site.{Site}
 use Rattle.rina_words.specs.declared.run.Run.{Run}
 use Rattle.rina_notes.specs.Sites.{label_in}
-use Rattle.rina_words.specs.Step.{AtPort, AtSite, AtWire, CallsAllocate, CallsCdap, CallsClock, CallsFree, CallsIn, CallsIncoming, CallsRegister, CallsUnregister, CallsWire, LettingOut, RoundsBy, RoundsOnce, Stage, TellsState, TicksOnce, Unlabelled, asked, label_of, link_of}
-use Rattle.rina_laws.proofs.LabelCalls.{AllRest, app_frees, app_registers, app_unregisters}
+use Rattle.rina_words.specs.Step.{AtLower, AtPort, AtSite, AtWire, CallsAllocate, CallsCdap, CallsClock, CallsFree, CallsIn, CallsIncoming, CallsPublish, CallsRegister, CallsUnregister, CallsWire, LettingOut, RoundsBy, RoundsOnce, Stage, TellsMember, TellsState, TicksOnce, Unlabelled, asked, label_of, link_of}
+use Rattle.rina_laws.proofs.LabelCalls.{AllRest, app_frees, app_registers, app_unregisters, publishes}
 use Rattle.rina_laws.proofs.LabelClaimed.{fit_taken, named_claimed, ports_taken, tells_claimed}
 use Rattle.rina_laws.proofs.LabelClaims.{app_claims, app_claims_none}
 use Rattle.rina_laws.proofs.LabelFlows.{app_allocates, app_ask_refused}
@@ -43,7 +43,7 @@ Holds V told w = Keeps V told w.tower w.labels
 pub holds_same : {X : Type 0} (V : End → List X) (told : List ℕ → List X) (w w' : Run) → w' ≡ w → Holds V told w → Holds V told w'
 holds_same V told w w' is k = subst (λ (x : Run). Holds V told x) (sym is) k
 
--- ---- register, unregister, free and state
+-- ---- register, unregister, publish, member, free and state
 
 pub keeps_register : {X : Type 0} (V : End → List X) (told : List ℕ → List X) (app : List ℕ) (w : Run) (found : Result Site ℕ) (says : Option Answer) (w' : Run) → IsView V → IsTower w.tower → AtSite found (CallsRegister app w) w says w' → Holds V told w → Holds V told w'
 keeps_register V told app w (Err field) says w' view v c k = holds_same V told w w' c.run k
@@ -52,6 +52,18 @@ keeps_register V told app w (Ok site) says w' view v c k = keeps_on V told w.tow
 pub keeps_unregister : {X : Type 0} (V : End → List X) (told : List ℕ → List X) (app : List ℕ) (w : Run) (found : Result Site ℕ) (says : Option Answer) (w' : Run) → IsView V → IsTower w.tower → AtSite found (CallsUnregister app w) w says w' → Holds V told w → Holds V told w'
 keeps_unregister V told app w (Err field) says w' view v c k = holds_same V told w w' c.run k
 keeps_unregister V told app w (Ok site) says w' view v c k = keeps_on V told w.tower w'.tower w.labels w'.labels view (app_unregisters site.rank site.fac site.node app c.result w.tower w'.tower v c.does) c.labels k
+
+keeps_lower : {X : Type 0} (V : End → List X) (told : List ℕ → List X) (w : Run) (site : Site) (lower : Option ℕ) (says : Option Answer) (w' : Run) → IsView V → IsTower w.tower → AtLower 3 lower (CallsPublish w site) w says w' → Holds V told w → Holds V told w'
+keeps_lower V told w site None says w' view v c k = holds_same V told w w' c.run k
+keeps_lower V told w site (Some n) says w' view v c k = keeps_on V told w.tower w'.tower w.labels w'.labels view (publishes site.rank site.fac site.node n c.result w.tower w'.tower v c.does) c.labels k
+
+pub keeps_publish : {X : Type 0} (V : End → List X) (told : List ℕ → List X) (lower : Site → Option ℕ) (w : Run) (found : Result Site ℕ) (says : Option Answer) (w' : Run) → IsView V → IsTower w.tower → AtSite found (λ site. AtLower 3 (lower site) (CallsPublish w site) w) w says w' → Holds V told w → Holds V told w'
+keeps_publish V told lower w (Err field) says w' view v c k = holds_same V told w w' c.run k
+keeps_publish V told lower w (Ok site) says w' view v c k = keeps_lower V told w site (lower site) says w' view v c k
+
+pub keeps_member : {X : Type 0} (V : End → List X) (told : List ℕ → List X) (w : Run) (found : Result Site ℕ) (says : Option Answer) (w' : Run) → AtSite found (TellsMember w) w says w' → Holds V told w → Holds V told w'
+keeps_member V told w (Err field) says w' c k = holds_same V told w w' c.run k
+keeps_member V told w (Ok site) says w' c k = holds_same V told w w' c.run k
 
 pub keeps_free : {X : Type 0} (V : End → List X) (told : List ℕ → List X) (w : Run) (found : Option (ℕ × Port)) (says : Option Answer) (w' : Run) → IsView V → IsTower w.tower → AtPort found (CallsFree w) w says w' → Holds V told w → Holds V told w'
 keeps_free V told w None says w' view v c k = holds_same V told w w' c.run k

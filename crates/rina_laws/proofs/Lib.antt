@@ -46,6 +46,7 @@ pub mod WiresEvents
 pub mod WiresFreed
 pub mod WiresLaid
 pub mod WiresRun
+pub mod Published
 pub mod WrittenCalls
 pub mod UserObjects
 pub mod WrittenGoes

@@ -37,7 +37,7 @@ use Rattle.rina_tower.specs.Steps.{ClocksAtTop, InStepsAtTop, OutStepsAtTop}
 use Rattle.rina_tower.specs.ClockTick.{AreClocked, Ticks}
 use Rattle.rina_tower.specs.Levels.{AtRank, AtWires, SameBelow}
 use Rattle.rina_tower.proofs.Serving.{same_height}
-use Rattle.rina_tower.proofs.Staying.{any_stays, difs_planned, one_stays, same_links, same_planned, serves_stays}
+use Rattle.rina_tower.proofs.Staying.{any_stays, difs_planned, one_stays, same_planned, serves_stays}
 use Rattle.rina_words.specs.Step.{Passes, RoundsBy}
 
 -- the ranks are as many, and each DIF is as it was planned where it was so before
@@ -148,7 +148,7 @@ passes plan rank port t (x ∷ xs) t' (mid, waits, one, others) = keeps_on plan 
 -- ---- steps of a DIF
 
 after_stays : (below below' : _) (d d' : Dif) → StandsAfter below below' d d' → IsStaying d d'
-after_stays below below' d d' s = record { settings = s.settings; links = same_links _ _ s.laid }
+after_stays below below' d d' s = record { settings = s.settings; laid = s.laid }
 
 pub ins : (plan : Plan) (dif node link : ℕ) (r : Result InStep StepError) (t t' : Tower) → InStepsAtTop dif node link r t t' → Keeps plan t t'
 ins plan dif node link r (Wires a) (Wires a') d = (refl, λ h. tt)
@@ -169,7 +169,7 @@ outs plan may slots slots' dif node link r (Wires a) (Rank' p difs below) d = ab
 outs plan may slots slots' dif node link r (Rank' p difs below) (Wires a) d = absurd d
 
 asks_stays : (node : ℕ) (bytes : List ℕ) (r : Result (List ℕ) CdapCallError) (d d' : Dif) → AsksOne node bytes r d d' → IsStaying d d'
-asks_stays node bytes r d d' s = record { settings = ap (λ (x : Dif). x.settings) s.keeps.is; links = ap (λ (x : Dif). x.laid.links) s.keeps.is }
+asks_stays node bytes r d d' s = record { settings = ap (λ (x : Dif). x.settings) s.keeps.is; laid = ap (λ (x : Dif). x.laid) s.keeps.is }
 
 pub asks : (plan : Plan) (dif node : ℕ) (bytes : List ℕ) (r : Result (List ℕ) CdapCallError) (t t' : Tower) → AsksAtTop dif node bytes r t t' → Keeps plan t t'
 asks plan dif node bytes r (Wires a) (Wires a') d = (refl, λ h. tt)
@@ -180,7 +180,7 @@ asks plan dif node bytes r (Rank' p difs below) (Wires a) d = absurd d
 -- ---- ticks and rounds
 
 clocked_stays : (now : ℕ) (difs difs' : List Dif) → AreClocked now difs difs' → AreStaying difs difs'
-clocked_stays now difs difs' c = record { number = c.number; each = λ n d d' at at'. (record { settings = ap (λ (x : Dif). x.settings) (c.each n d d' at at').rest; links = ap (λ (x : Dif). x.laid.links) (c.each n d d' at at').rest }) }
+clocked_stays now difs difs' c = record { number = c.number; each = λ n d d' at at'. (record { settings = ap (λ (x : Dif). x.settings) (c.each n d d' at at').rest; laid = ap (λ (x : Dif). x.laid) (c.each n d d' at at').rest }) }
 
 pub tick : (plan : Plan) (r : Result (Unit {0}) TickError) (t t' : Tower) → Ticks r t t' → Keeps plan t t'
 tick plan r (Wires a) (Wires a') d = (refl, λ h. tt)

@@ -7,6 +7,7 @@ use Rattle.rina_schedule.specs.declared.error.LineError.{LineError}
 use Rattle.rina_schedule.specs.declared.event.Event.{Event}
 use Rattle.rina_stack.specs.declared.plan.Plan.{Plan}
 use Rattle.rina_dif.specs.declared.dif.Dif.{Dif}
+use Rattle.rina_dif.specs.declared.layout.Layout.{Layout}
 use Rattle.rina_dif.specs.Holding.{Stands}
 use Rattle.rina_dif.specs.Routing.{HaveRoutes}
 use Rattle.rina_dif.proofs.Managed.{managed_routed}
@@ -51,7 +52,7 @@ dif_routed plan rank d below st h = record {
   is_dif = h.is_dif;
   its_rank = h.its_rank;
   settings = h.settings;
-  routes = subst (λ (ls : List LinkPlan). HaveRoutes d.settings.members ls d.processes d.managements) h.links (managed_routed d.settings.members d.laid.links d.clock d.processes d.managements st.1.managed);
+  routes = subst (λ (ls : List LinkPlan). HaveRoutes d.settings.members ls d.processes d.managements) (ap (λ (l : Layout). l.links) h.laid) (managed_routed d.settings.members d.laid.links d.clock d.processes d.managements st.1.managed);
 }
 
 all_routed : (plan : Plan) (t : Tower) → IsTower t → IsAsPlanned plan t → AreRoutedAs plan t

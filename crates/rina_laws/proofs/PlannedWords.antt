@@ -1,5 +1,5 @@
 -- Each word of a schedule keeps the DIFs as they were planned.
-use Rattle.std.proofs.Common.{◌≡◌, ℕ, zero, suc, ◌+◌, nat_lt, Bool, true, false, ◌||◌, List, Some, None, Option, Result, Ok, Err, ap}
+use Rattle.std.proofs.Common.{◌≡◌, ℕ, zero, suc, ◌+◌, nat_lt, Bool, true, false, ◌||◌, List, Some, None, Option, Result, Ok, Err, inl, inr, ap}
 use Rattle.rina_base.specs.declared.number.Port.{Port}
 use Rattle.rina_cube.specs.declared.Want.{Want}
 use Rattle.rina_data.specs.declared.step.StepError.TheVariants.{NoIpc}
@@ -26,7 +26,8 @@ use Rattle.rina_notes.specs.declared.label.Label.{Label}
 use Rattle.rina_notes.specs.declared.site.Site.{Site}
 use Rattle.rina_words.specs.declared.run.Run.{Run}
 use Rattle.rina_notes.specs.Sites.{dif_site_at, fac_named, label_in, port_in, site_at}
-use Rattle.rina_words.specs.Step.{Accounting, Acts, ActsOnRun, AtPort, AtSite, AtWire, CallsAllocate, CallsCdap, CallsClock, CallsFree, CallsIn, CallsIncoming, CallsRegister, CallsSend, CallsUnregister, CallsWire, LettingOut, Reading, Showing, ShowingRib, Stage, TellsState, Ticking, Ticks, Unlabelled, asked, link_of, wire_of}
+use Rattle.rina_words.specs.Step.{Accounting, Acts, ActsOnRun, AtLower, AtPort, AtSite, AtWire, CallsAllocate, CallsCdap, CallsClock, CallsFree, CallsIn, CallsIncoming, CallsPublish, CallsRegister, CallsSend, CallsUnregister, CallsWire, LettingOut, Reading, Showing, ShowingRib, Stage, TellsMember, TellsState, Ticking, Ticks, Unlabelled, asked, link_of, number_below, wire_of}
+use Rattle.rina_laws.proofs.Published.{MayRegister, published}
 use Rattle.rina_laws.proofs.PlannedAt as at
 use Rattle.rina_laws.proofs.PlannedAt.{Keeps, keeps_on, keeps_same}
 
@@ -54,6 +55,10 @@ at_port plan (Some p) Call w says w' next d = next p d
 at_wire : (plan : Plan) (o : Option ℕ) (Does : ℕ → Result (Unit {0}) WireError → Tower → Tower → Type 0) (w : Run) (says : Option Answer) (w' : Run) → ((n : ℕ) (r : Result (Unit {0}) WireError) → Does n r w.tower w'.tower → KeepsIn plan w w') → AtWire o (λ n. CallsWire (Does n) w) w says w' → KeepsIn plan w w'
 at_wire plan None Does w says w' next d = same plan w w' d.run
 at_wire plan (Some n) Does w says w' next d = next n d.result d.does
+
+at_lower : (plan : Plan) (o : Option ℕ) (Call : ℕ → Option Answer → Run → Type 0) (w : Run) (says : Option Answer) (w' : Run) → ((n : ℕ) → Call n says w' → KeepsIn plan w w') → AtLower 3 o Call w says w' → KeepsIn plan w w'
+at_lower plan None Call w says w' next d = same plan w w' d.run
+at_lower plan (Some n) Call w says w' next d = next n d
 
 -- ---- calls of applications
 
@@ -115,6 +120,15 @@ clocks plan w site says w' c = at.at_rank plan site.rank (ClocksAtTop site.fac s
 asking : (plan : Plan) (bytes : List ℕ) (w : Run) (site : Site) (says : Option Answer) (w' : Run) → CallsCdap bytes w site says w' → KeepsIn plan w w'
 asking plan bytes w site says w' c = at.at_rank plan site.rank (AsksAtTop site.fac site.node bytes c.result) (c.result ≡ Err NoneThere) w.tower w'.tower (at.asks plan site.fac site.node bytes c.result) c.does
 
+may_register : (plan : Plan) (fac node : ℕ) (u u' : Tower) → MayRegister fac node u u' → Keeps plan u u'
+may_register plan fac node u u' (inl d) = keeps_same plan u u' d
+may_register plan fac node u u' (inr (name, x, d)) = at.registers plan fac node name x u u' d
+
+publishes : (plan : Plan) (w : Run) (site : Site) (fac : ℕ) (says : Option Answer) (w' : Run) → CallsPublish w site fac says w' → KeepsIn plan w w'
+publishes plan w site fac says w' c =
+    let k = published site.rank site.fac site.node fac c.result w.tower w'.tower c.does in
+    at.at_rank plan k.rank (MayRegister fac site.node) ⊥ w.tower w'.tower (may_register plan fac site.node) k.done
+
 letting : (plan : Plan) (r : Result Site ℕ) (link : ℕ) (s : Stage) (says : Option Answer) (s' : Stage) → LettingOut plan r link s says s' → KeepsIn plan s.run s'.run
 letting plan (Err field) link s says s' d = same plan s.run s'.run (ap (λ (v : Stage). v.run) d.1)
 letting plan (Ok site) link s says s' d = at.at_rank plan site.rank (OutStepsAtTop Anything s.shelf s'.shelf site.fac site.node (link_of link) d.result) ((d.result ≡ Err NoIpc) × (s'.shelf ≡ s.shelf)) s.run.tower s'.run.tower (at.outs plan Anything s.shelf s'.shelf site.fac site.node (link_of link) d.result) d.does
@@ -145,6 +159,10 @@ words plan line (events.Clock dif node) w ns w' d = at_site plan (dif_site_at pl
 words plan line (events.Ledger dif node) w ns w' d = accounting plan line (dif_site_at plan dif node) w ns w' d
 words plan line (events.Cdap dif node bytes) w ns w' d = at_site plan (dif_site_at plan dif node) (CallsCdap bytes w) w d.says w' (λ site c. asking plan bytes w site d.says w' c) d.does
 words plan line (events.Rib dif node path) w ns w' d = showing_rib plan line path (dif_site_at plan dif node) w ns w' d
+words plan line (events.Publish dif node fac) w ns w' d =
+    at_site plan (dif_site_at plan dif node) (λ site. AtLower 3 (number_below site.rank (fac_named plan fac)) (CallsPublish w site) w) w d.says w' (λ site u.
+    at_lower plan (number_below site.rank (fac_named plan fac)) (CallsPublish w site) w d.says w' (λ n c. publishes plan w site n d.says w' c) u) d.does
+words plan line (events.Member dif node) w ns w' d = at_site plan (dif_site_at plan dif node) (TellsMember w) w d.says w' (λ site c. same plan w w' c.run) d.does
 words plan line event w ns w' d = absurd d.does
 
 pub acts : (plan : Plan) (line : ℕ) (event : Event) (s : Stage) (ns : List Note) (s' : Stage) → Acts plan line event s ns s' → Keeps plan s.run.tower s'.run.tower

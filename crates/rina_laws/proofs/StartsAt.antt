@@ -119,7 +119,7 @@ new_untouched plan i d old new h =
     let dif = dif_there plan i d.settings (slice_get plan.difs i) refl h.settings in
     record {
       processes = λ k member p of at. new_did_nothing _ _ _ p (h.processes k member p of at);
-      kept = λ k member p m of at here. none_started d.settings.cubes d.settings.members dif.0.links m.objects ((h.managed dif.0 dif.1).each k member p m of at here).shows;
+      kept = λ k member p m of at here. none_started d.settings.cubes dif.0.is_static d.settings.members dif.0.links member m.objects ((h.managed dif.0 dif.1).each k member p m of at here).shows;
     }
 
 made_untouched : (plan : Plan) (is : List ℕ) (t : Tower) (ds : List Dif) (u : Tower) → AreMadeOver plan is t ds u → (n : ℕ) (d : Dif) → slice_get ds n ≡ Some d → IsUntouched d

@@ -1,5 +1,5 @@
 -- Nothing lies below `/user` at the members of a DIF that was made, and binding a flow puts nothing there.
-use Rattle.std.proofs.Common.{◌≡◌, ◌∙◌, ◌⊎◌, inl, inr, ⊎_elim, ℕ, Bool, true, false, cond, not, nat_eq, List, [], ◌∷◌, ◌++◌, Option, Some, None, Result, Ok, Err, Contains, map, slice_get, option_map, refl, sym, ap, subst}
+use Rattle.std.proofs.Common.{◌≡◌, ◌∙◌, ◌⊎◌, inl, inr, ⊎_elim, ℕ, Bool, true, false, cond, not, nat_eq, List, [], ◌∷◌, ◌++◌, Option, Some, None, Result, Ok, Err, Contains, map, slice_get, option_map, if◌then◌else◌, refl, sym, ap, subst}
 use Rattle.std.specs.Prelude.{codes, is_some}
 use Rattle.std.specs.List.{fold, starts_with}
 use Rattle.std.proofs.lemmas.Bool.{false≢true}
@@ -26,7 +26,7 @@ use Rattle.rina_data.specs.declared.settings.Member.{Member}
 use Rattle.rina_member.specs.declared.management.Management.{Management}
 use Rattle.rina_member.specs.Managements.{entered, with_flow}
 use Rattle.rina_member.specs.Objects.{cube_told, first_objects, flow_name, item_told, or_same, removed, shown_as, told}
-use Rattle.rina_member.specs.Start.{items_held, member_item, start_items, state_item}
+use Rattle.rina_member.specs.Start.{first_enrolled, items_held, items_taken, member_item, start_items, starts_enrolled, state_item, state_items}
 use Rattle.rina_dif.specs.Changing.{changed_if, with_flow_at}
 use Rattle.rina_laws.specs.Starts.{NoneOfUser}
 
@@ -105,15 +105,24 @@ free_all : (items new : List Item) → ((y : Item) → Contains items y → Lies
 free_all items [] all free y among = all y among
 free_all items (x ∷ new) all free y among = free_all (taken items x) new (free_taken items x (free x (head x new)) all) (λ z later. free z (tail x new z later)) y among
 
-free_start : (members : List Member) (plans : List LinkPlan) (y : Item) → Contains (start_items members plans) y → LiesBelow user y.key → ⊥
-free_start members plans y among = ⊎_elim
-    (λ first. (let r = contains_unmap member_item members y first in subst (λ (z : Item). LiesBelow user z.key → ⊥) r.2 (not_user _ refl)))
-    (λ second. (let r = contains_unmap (state_item members plans) members y second in subst (λ (z : Item). LiesBelow user z.key → ⊥) r.2 (not_user _ refl)))
-    (Contains-append_cases (map member_item members) (map (state_item members plans) members) y among)
+free_states : (is_static : Bool) (members : List Member) (plans : List LinkPlan) (y : Item) → Contains (state_items is_static members plans) y → LiesBelow user y.key → ⊥
+free_states true members plans y among = (let r = contains_unmap (state_item members plans) members y among in subst (λ (z : Item). LiesBelow user z.key → ⊥) r.2 (not_user _ refl))
+free_states false members plans y among = absurd (in_none y among)
 
-pub none_started : (cubes : List Cube) (members : List Member) (plans : List LinkPlan) (t : Tree) → t ≡ first_objects cubes (items_held members plans) → NoneOfUser t
-none_started cubes members plans t is = subst NoneOfUser (sym is)
-    (none_items (fold cube_told first_tree cubes) (items_held members plans) (free_all [] (start_items members plans) (λ y none. absurd (in_none y none)) (free_start members plans)) (none_cubes first_tree cubes none_first))
+free_start : (is_static : Bool) (members : List Member) (plans : List LinkPlan) (y : Item) → Contains (start_items is_static members plans) y → LiesBelow user y.key → ⊥
+free_start is_static members plans y among = ⊎_elim
+    (λ first. (let r = contains_unmap member_item (first_enrolled is_static members) y first in subst (λ (z : Item). LiesBelow user z.key → ⊥) r.2 (not_user _ refl)))
+    (free_states is_static members plans y)
+    (Contains-append_cases (map member_item (first_enrolled is_static members)) (state_items is_static members plans) y among)
+
+-- what a member holds, be it enrolled or not
+free_held : (enrolled is_static : Bool) (members : List Member) (plans : List LinkPlan) (y : Item) → Contains (if enrolled then items_taken is_static members plans else []) y → LiesBelow user y.key → ⊥
+free_held true is_static members plans y among = free_all [] (start_items is_static members plans) (λ z none. absurd (in_none z none)) (free_start is_static members plans) y among
+free_held false is_static members plans y among = absurd (in_none y among)
+
+pub none_started : (cubes : List Cube) (is_static : Bool) (members : List Member) (plans : List LinkPlan) (m : Member) (t : Tree) → t ≡ first_objects cubes (items_held is_static members plans m) → NoneOfUser t
+none_started cubes is_static members plans m t is = subst NoneOfUser (sym is)
+    (none_items (fold cube_told first_tree cubes) (items_held is_static members plans m) (free_held (starts_enrolled is_static members m.addr) is_static members plans) (none_cubes first_tree cubes none_first))
 
 -- A flow is bound
 

@@ -39,9 +39,10 @@ use Rattle.rina_notes.specs.declared.site.Site.{Site}
 use Rattle.rina_words.specs.declared.run.Run.{Run}
 use Rattle.rina_notes.specs.Told.{answer_told, wire_told}
 use Rattle.rina_notes.specs.Sites.{dif_site_at, fac_named, label_in, port_in, site_at}
-use Rattle.rina_words.specs.Step.{Accounting, Acts, ActsOnRun, AtPort, AtSite, AtWire, CallsAllocate, CallsCdap, CallsClock, CallsFree, CallsIn, CallsIncoming, CallsRegister, CallsSend, CallsUnregister, CallsWire, LettingOut, Reading, Showing, ShowingRib, Stage, TellsState, Ticking, Ticks, Unlabelled, asked, link_of, wire_of}
+use Rattle.rina_words.specs.Step.{Accounting, Acts, ActsOnRun, AtLower, AtPort, AtSite, AtWire, CallsAllocate, CallsCdap, CallsClock, CallsFree, CallsIn, CallsIncoming, CallsPublish, CallsRegister, CallsSend, CallsUnregister, CallsWire, LettingOut, Reading, Showing, ShowingRib, Stage, TellsMember, TellsState, Ticking, Ticks, Unlabelled, asked, link_of, number_below, wire_of}
 use Rattle.rina_laws.specs.Frames.{wires_of}
 use Rattle.rina_laws.specs.SomeStep.{SomeOfTicking, SomeOfTicks, SomeOfWord}
+use Rattle.rina_laws.proofs.Published.{MayRegister, published}
 use Rattle.rina_laws.proofs.WiresAt.{Holds, IsPart, Keeps, KeepsClocks, at_app, at_claim, at_rank, at_wires, ins_here, outs_here, passes, round, rounds_by, tick}
 
 -- ---- where a word is refused before its call, nothing is done
@@ -57,6 +58,10 @@ unlabelled P None Call w says w' h d next = next d
 at_port : (P : Air → Type 0) (o : Option (ℕ × Port)) (Call : ℕ → Port → Option Answer → Run → Type 0) (w : Run) (says : Option Answer) (w' : Run) → Holds P w.tower → AtPort o Call w says w' → ((p : ℕ × Port) → Call p.0 p.1 says w' → Holds P w'.tower) → Holds P w'.tower
 at_port P None Call w says w' h d next = subst (λ (v : Run). Holds P v.tower) (sym d.run) h
 at_port P (Some p) Call w says w' h d next = next p d
+
+at_lower : (P : Air → Type 0) (o : Option ℕ) (Call : ℕ → Option Answer → Run → Type 0) (w : Run) (says : Option Answer) (w' : Run) → Holds P w.tower → AtLower 3 o Call w says w' → ((n : ℕ) → Call n says w' → Holds P w'.tower) → Holds P w'.tower
+at_lower P None Call w says w' h d next = subst (λ (v : Run). Holds P v.tower) (sym d.run) h
+at_lower P (Some n) Call w says w' h d next = next n d
 
 -- ---- calls of applications: at wires, or at a rank of DIFs, where nothing is done below
 
@@ -194,6 +199,15 @@ asks_here P n node bytes x (Rank' p difs below) (Wires a) h d = absurd d
 asking : (P : Air → Type 0) (bytes : List ℕ) (w : Run) (site : Site) (says : Option Answer) (w' : Run) → Holds P w.tower → CallsCdap bytes w site says w' → Holds P w'.tower
 asking P bytes w site says w' h c = at_rank P site.rank (AsksAtTop site.fac site.node bytes c.result) (c.result ≡ Err NoneThere) w.tower w'.tower h c.does (λ u u' part g d. asks_here P site.fac site.node bytes c.result u u' g d)
 
+may_register : (P : Air → Type 0) (kept : Keeps P) (n node : ℕ) (u u' : Tower) → Holds P u → MayRegister n node u u' → Holds P u'
+may_register P kept n node u u' h (inl d) = subst (Holds P) (sym d) h
+may_register P kept n node u u' h (inr (name, x, d)) = registers_here P kept n node name x u u' h d
+
+publishes : (P : Air → Type 0) (kept : Keeps P) (w : Run) (site : Site) (n : ℕ) (says : Option Answer) (w' : Run) → Holds P w.tower → CallsPublish w site n says w' → Holds P w'.tower
+publishes P kept w site n says w' h c =
+    let k = published site.rank site.fac site.node n c.result w.tower w'.tower c.does in
+    at_rank P k.rank (MayRegister n site.node) ⊥ w.tower w'.tower h k.done (λ u u' part g d. may_register P kept n site.node u u' g d)
+
 letting : (P : Air → Type 0) (kept : Keeps P) (plan : Plan) (r : Result Site ℕ) (link : ℕ) (s : Stage) (says : Option Answer) (s' : Stage) → Holds P s.run.tower → LettingOut plan r link s says s' → Holds P s'.run.tower
 letting P kept plan (Err field) link s says s' h d = subst (λ (v : Stage). Holds P v.run.tower) (sym d.1) h
 letting P kept plan (Ok site) link s says s' h d = at_rank P site.rank (OutStepsAtTop Anything s.shelf s'.shelf site.fac site.node (link_of link) d.result) ((d.result ≡ Err NoIpc) × (s'.shelf ≡ s.shelf)) s.run.tower s'.run.tower h d.does (λ u u' part g e. outs_here P kept Anything s.shelf s'.shelf site.fac site.node (link_of link) d.result u u' g e)
@@ -229,6 +243,10 @@ words P kept Is clock plan line (events.Clock dif node) w ns w' special unspoilt
 words P kept Is clock plan line (events.Ledger dif node) w ns w' special unspoilt h d = accounting P plan line (dif_site_at plan dif node) w ns w' h d
 words P kept Is clock plan line (events.Cdap dif node bytes) w ns w' special unspoilt h d = at_site P (dif_site_at plan dif node) (CallsCdap bytes w) w d.says w' h d.does (λ site c. asking P bytes w site d.says w' h c)
 words P kept Is clock plan line (events.Rib dif node path) w ns w' special unspoilt h d = showing_rib P line path (dif_site_at plan dif node) w ns w' h d
+words P kept Is clock plan line (events.Publish dif node fac) w ns w' special unspoilt h d =
+    at_site P (dif_site_at plan dif node) (λ site. AtLower 3 (number_below site.rank (fac_named plan fac)) (CallsPublish w site) w) w d.says w' h d.does (λ site u.
+    at_lower P (number_below site.rank (fac_named plan fac)) (CallsPublish w site) w d.says w' h u (λ n c. publishes P kept w site n d.says w' h c))
+words P kept Is clock plan line (events.Member dif node) w ns w' special unspoilt h d = at_site P (dif_site_at plan dif node) (TellsMember w) w d.says w' h d.does (λ site c. subst (λ (v : Run). Holds P v.tower) (sym c.run) h)
 words P kept Is clock plan line event w ns w' special unspoilt h d = absurd d.does
 
 pub acts : (P : Air → Type 0) (kept : Keeps P) (Is : Tower → Tower → Type 0) (clock : KeepsClocks P Is) (plan : Plan) (line : ℕ) (event : Event) (s : Stage) (ns : List Note) (s' : Stage) → Special P event s'.run → (d : Acts plan line event s ns s') → (SomeOfWord Is plan line event s ns s' d → ⊥) → Holds P s.run.tower → Holds P s'.run.tower

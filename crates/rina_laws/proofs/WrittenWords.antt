@@ -1,5 +1,5 @@
 -- Each word of a schedule leaves a tower that stands; but for the steps of DIFs and the freeing of a flow none writes PDUs off.
-use Rattle.std.proofs.Common.{◌≡◌, ◌∙◌, ℕ, Bool, true, false, ◌||◌, List, [], ◌∷◌, Some, None, Option, option_and_then, IsSome, Result, Ok, Err, refl, sym, ap}
+use Rattle.std.proofs.Common.{◌≡◌, ◌∙◌, ℕ, Bool, true, false, ◌||◌, List, [], ◌∷◌, Some, None, Option, option_and_then, IsSome, Result, Ok, Err, inl, inr, refl, sym, ap}
 use Rattle.rina_base.specs.declared.number.Port.{Port}
 use Rattle.rina_cube.specs.declared.Want.{Want}
 use Rattle.rina_law.specs.declared.entry.Entry.{Entry}
@@ -34,8 +34,9 @@ use Rattle.rina_notes.specs.declared.label.Label.{Label}
 use Rattle.rina_notes.specs.declared.site.Site.{Site}
 use Rattle.rina_notes.specs.Sites.{dif_site_at, fac_named, label_in, port_in, site_at}
 use Rattle.rina_words.specs.declared.run.Run.{Run}
-use Rattle.rina_words.specs.Step.{Accounting, ActsOnRun, AtPort, AtSite, AtWire, CallsAllocate, CallsCdap, CallsClock, CallsFree, CallsIn, CallsIncoming, CallsRegister, CallsSend, CallsUnregister, CallsWire, LettingOut, Passes, Reading, SaysBeside, Showing, ShowingRib, Stage, TellsState, Unlabelled, asked, for_app, link_of, waiting, wire_of}
+use Rattle.rina_words.specs.Step.{Accounting, ActsOnRun, AtLower, AtPort, AtSite, AtWire, CallsAllocate, CallsCdap, CallsClock, CallsFree, CallsIn, CallsIncoming, CallsPublish, CallsRegister, CallsSend, CallsUnregister, CallsWire, LettingOut, Passes, Reading, SaysBeside, Showing, ShowingRib, Stage, TellsMember, TellsState, Unlabelled, asked, for_app, link_of, number_below, waiting, wire_of}
 use Rattle.rina_laws.specs.Written.{MayWrite}
+use Rattle.rina_laws.proofs.Published.{MayRegister, published}
 use Rattle.rina_laws.proofs.WrittenCalls as calls
 use Rattle.rina_laws.proofs.WrittenGoes.{Goes, at_app, at_claim, at_rank, at_wires, goes_same}
 use Rattle.rina_laws.proofs.WrittenGrows.{MayBeWritten, Never, grows_on}
@@ -65,6 +66,10 @@ at_port W (Some p) Call w says w' v next d = next p d
 at_wire : (W : MayBeWritten) (o : Option ℕ) (Does : ℕ → Result (Unit {0}) WireError → Tower → Tower → Type 0) (w : Run) (says : Option Answer) (w' : Run) → IsTower w.tower → ((n : ℕ) (r : Result (Unit {0}) WireError) → Does n r w.tower w'.tower → GoesIn W w w') → AtWire o (λ n. CallsWire (Does n) w) w says w' → GoesIn W w w'
 at_wire W None Does w says w' v next d = same W w w' v d.run
 at_wire W (Some n) Does w says w' v next d = next n d.result d.does
+
+at_lower : (W : MayBeWritten) (o : Option ℕ) (Call : ℕ → Option Answer → Run → Type 0) (w : Run) (says : Option Answer) (w' : Run) → IsTower w.tower → ((n : ℕ) → Call n says w' → GoesIn W w w') → AtLower 3 o Call w says w' → GoesIn W w w'
+at_lower W None Call w says w' v next d = same W w w' v d.run
+at_lower W (Some n) Call w says w' v next d = next n d
 
 -- ---- calls of applications
 
@@ -140,6 +145,15 @@ showing_rib W line path (Ok site) w ns w' v d = same W w w' v d.run
 asking : (W : MayBeWritten) (bytes : List ℕ) (w : Run) (site : Site) (says : Option Answer) (w' : Run) → IsTower w.tower → CallsCdap bytes w site says w' → GoesIn W w w'
 asking W bytes w site says w' v c = at_rank W site.rank (AsksAtTop site.fac site.node bytes c.result) (c.result ≡ Err NoneThere) w.tower w'.tower v (λ u u' is k e. calls.asks W site.fac site.node bytes c.result u u' k e) c.does
 
+may_register : (W : MayBeWritten) (fac node : ℕ) (u u' : Tower) → IsTower u → MayRegister fac node u u' → Goes W u u'
+may_register W fac node u u' v (inl d) = goes_same W u u' v d
+may_register W fac node u u' v (inr (name, x, d)) = calls.registers W fac node name x u u' v d
+
+publishes : (W : MayBeWritten) (w : Run) (site : Site) (fac : ℕ) (says : Option Answer) (w' : Run) → IsTower w.tower → CallsPublish w site fac says w' → GoesIn W w w'
+publishes W w site fac says w' v c =
+    let k = published site.rank site.fac site.node fac c.result w.tower w'.tower c.does in
+    at_rank W k.rank (MayRegister fac site.node) ⊥ w.tower w'.tower v (λ u u' is t e. may_register W fac site.node u u' t e) k.done
+
 takes_in : (plan : Plan) (link : ℕ) (w : Run) (site : Site) (says : Option Answer) (w' : Run) → IsTower w.tower → CallsIn plan link w site says w' → GoesIn MayWrite w w'
 takes_in plan link w site says w' v c = at_rank MayWrite site.rank (InStepsAtTop site.fac site.node (link_of link) c.result) (c.result ≡ Err NoIpc) w.tower w'.tower v (λ u u' is k e. takes site.fac site.node (link_of link) c.result u u' k e) c.does
 
@@ -190,6 +204,10 @@ words plan line (events.Journal name) w ns w' v d = showing Never plan line (fac
 words plan line (events.Ledger dif node) w ns w' v d = accounting Never plan line (dif_site_at plan dif node) w ns w' v d
 words plan line (events.Rib dif node path) w ns w' v d = showing_rib Never line path (dif_site_at plan dif node) w ns w' v d
 words plan line (events.Cdap dif node bytes) w ns w' v d = at_site Never (dif_site_at plan dif node) (CallsCdap bytes w) w d.says w' v (λ site c. asking Never bytes w site d.says w' v c) d.does
+words plan line (events.Publish dif node fac) w ns w' v d =
+    at_site Never (dif_site_at plan dif node) (λ site. AtLower 3 (number_below site.rank (fac_named plan fac)) (CallsPublish w site) w) w d.says w' v (λ site u.
+    at_lower Never (number_below site.rank (fac_named plan fac)) (CallsPublish w site) w d.says w' v (λ n c. publishes Never w site n d.says w' v c) u) d.does
+words plan line (events.Member dif node) w ns w' v d = at_site Never (dif_site_at plan dif node) (TellsMember w) w d.says w' v (λ site c. same Never w w' v c.run) d.does
 words plan line event w ns w' v d = absurd d.does
 
 pub lets : (plan : Plan) (line : ℕ) (dif node : List ℕ) (link : ℕ) (s : Stage) (ns : List Note) (s' : Stage) → IsTower s.run.tower → SaysBeside line (LettingOut plan (dif_site_at plan dif node) link s) ns s' → GoesIn MayWrite s.run s'.run

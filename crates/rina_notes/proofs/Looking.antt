@@ -1,5 +1,5 @@
 -- Labels that tell the states of their ports.
-use Rattle.std.proofs.Common.{◌≡◌, ℕ, zero, suc, ◌+◌, ◌-◌, ◌<◌, ◌≤◌, List, [], ◌∷◌, ◌++◌, get_or, length, map, take, drop, slice_get, slice_set, Option, Some, None, option_and_then, option_map, true, false, refl, sym, ap, subst, inl, inr, ◌∙◌, arith, append_assoc, add-one}
+use Rattle.std.proofs.Common.{◌≡◌, ◌≢◌, ℕ, zero, suc, ◌+◌, ◌-◌, ◌<◌, ◌≤◌, List, [], ◌∷◌, ◌++◌, get_or, length, map, take, drop, slice_get, slice_set, Option, Some, None, option_and_then, option_map, is_some, Result, Ok, Err, OnErr, true, false, refl, sym, ap, subst, inl, inr, ◌∙◌, arith, append_assoc, add-one}
 use Rattle.std.specs.List.{flat_map}
 use Rattle.std.proofs.lemmas.Bool.Decides.{eqb_tells}
 use Rattle.std.proofs.lemmas.List.{append-nil}
@@ -17,6 +17,7 @@ use Rattle.rina_iface.proofs.Found.{end_of_stands, stands_there}
 use Rattle.rina_report.specs.declared.note.Note.{Note}
 use Rattle.rina_report.specs.declared.answer.Answer.{Answer}
 use Rattle.rina_report.specs.declared.answer.Answer.TheVariants as answers
+use Rattle.rina_report.specs.declared.state.StateNote.{StateNote}
 use Rattle.rina_stack.specs.declared.plan.Plan.{Plan}
 use Rattle.rina_tower.specs.declared.tower.Tower.{Tower}
 use Rattle.rina_tower.specs.Ranks.{now_of, rank_of, seen_of}
@@ -35,6 +36,20 @@ told_before plan line t l ns same = rw (sym same) (sym (append-nil ns))
 pub told_now : (plan : Plan) (line : ℕ) (t : Tower) (l : Label) (says : Option Answer) → false ≡ same_drawn (state_at t l.rank l.port) l.shown → says ≡ option_map (answers.Label l.name) (drawn_told plan l.rank (state_at t l.rank l.port)) → noted line (now_of t) says ≡ label_notes plan line t l
 unfolding label_notes
 told_now plan line t l says differs is = rw (sym differs, is) refl
+
+noted_some : (line tick : ℕ) (name : List ℕ) (o : Option StateNote) → is_some o ≡ true → noted line tick (option_map (answers.Label name) o) ≡ [] → ⊥
+noted_some line tick name None some none = cc
+noted_some line tick name (Some state) some none = cc
+
+-- a state that is told now has a note
+pub has_note : (plan : Plan) (line : ℕ) (t : Tower) (l : Label) → false ≡ same_drawn (state_at t l.rank l.port) l.shown → is_some (drawn_told plan l.rank (state_at t l.rank l.port)) ≡ true → label_notes plan line t l ≢ []
+has_note plan line t l differs some = λ none.
+    let told = drawn_told plan l.rank (state_at t l.rank l.port) in
+    noted_some line (now_of t) l.name told some (told_now plan line t l (option_map (answers.Label l.name) told) differs refl ∙ none)
+
+pub on_err : {T E : Type 0} (P : Type 0) (r : Result T E) → P → OnErr r P
+on_err P (Ok x) p = tt
+on_err P (Err e) p = p
 
 -- ---- the state of a port whose end stands at a place
 
@@ -215,3 +230,24 @@ shown_on rank fac ends labels from at l before within got shown k x ge lt is =
       | inl here ↦ subst (IsShownIn rank fac ends) (same_Some l x (sym there ∙ ap (slice_get labels) (sym here.1) ∙ is)) shown
       | inr other ↦ before k x ge (omega (arith, lt, other.1)) is
     ]
+
+-- ---- where a label tells its state, not all labels are silent
+
+both_none : {X : Type 0} (xs ys : List X) → xs ++ ys ≡ [] → (xs ≡ []) × (ys ≡ [])
+both_none [] ys none = (refl, none)
+both_none (x ∷ xs) ys none = cc
+
+module _ {X Y : Type 0} where
+  each_none : (f : X → List Y) (xs : List X) (i : ℕ) (x : X) → slice_get xs i ≡ Some x → flat_map f xs ≡ [] → f x ≡ []
+  each_none f [] i x at none = cc
+  each_none f (y ∷ xs) zero x at none =
+      let same : y ≡ x = cc in
+      subst (λ (z : X). f z ≡ []) same (both_none (f y) (flat_map f xs) (sym (flat_map-cons f y xs) ∙ none)).0
+  each_none f (y ∷ xs) (suc i) x at none = each_none f xs i x at (both_none (f y) (flat_map f xs) (sym (flat_map-cons f y xs) ∙ none)).1
+
+pub some_note : (plan : Plan) (line : ℕ) (t : Tower) (ls : List Label) (start : List Note) (i : ℕ) (now : List Label) (trace : List Note) → i < length now → HaveTold plan line t ls start i now trace → ((l : Label) → slice_get now i ≡ Some l → label_notes plan line t l ≢ []) → state_notes plan line t ls ≢ []
+some_note plan line t ls start i now trace lt h tells = λ none.
+    let size = told_size plan line t ls start i now trace h in
+    let (l, at) = there_is ls i (omega (arith, lt, size)) in
+    let seen : slice_get now i ≡ Some l = ap (λ (zs : List Label). slice_get zs i) h.labels ∙ seen_after (shown_now t) ls i ∙ at in
+    tells l seen (each_none (label_notes plan line t) ls i l at none)

@@ -1,5 +1,7 @@
 -- How a run tells ports, states and refusals: with the names of the stack in place of numbers.
 use Rattle.std.specs.Prelude.{ℕ, ◌-◌, ◌==◌, if◌then◌else◌, List, slice_get, Option, Some, None, Result, Ok, Err, option_and_then, option_map}
+use Rattle.rina_agent.specs.declared.state.MemberState.{MemberState}
+use Rattle.rina_agent.specs.declared.state.MemberState.TheVariants as of_members
 use Rattle.rina_base.specs.declared.number.Port.{Port}
 use Rattle.rina_iface.specs.declared.state.PortState.{PortState}
 use Rattle.rina_iface.specs.declared.state.PortState.TheVariants as states
@@ -22,6 +24,8 @@ use Rattle.rina_report.specs.declared.refusal.Refusal.{Refusal}
 use Rattle.rina_report.specs.declared.refusal.Refusal.TheVariants as refusals
 use Rattle.rina_report.specs.declared.answer.Answer.{Answer}
 use Rattle.rina_report.specs.declared.answer.Answer.TheVariants as answers
+use Rattle.rina_report.specs.declared.state.MemberNote.{MemberNote}
+use Rattle.rina_report.specs.declared.state.MemberNote.TheVariants as member_notes
 use Rattle.rina_report.specs.declared.state.PortNote.{PortNote}
 use Rattle.rina_report.specs.declared.state.FailNote.{FailNote}
 use Rattle.rina_report.specs.declared.state.FailNote.TheVariants as fail_notes
@@ -30,6 +34,8 @@ use Rattle.rina_report.specs.declared.state.StateNote.TheVariants as notes
 use Rattle.rina_stack.specs.declared.plan.Plan.{Plan}
 use Rattle.rina_tower.specs.declared.applications.AppError.{AppError}
 use Rattle.rina_tower.specs.declared.applications.AppError.TheVariants as apps
+use Rattle.rina_tower.specs.declared.publish.PublishError.{PublishError}
+use Rattle.rina_tower.specs.declared.publish.PublishError.TheVariants as publish
 use Rattle.rina_stack.specs.Plan.{names_of}
 use Rattle.rina_notes.specs.Sites.{names_at}
 
@@ -62,12 +68,24 @@ state_told plan rank states.Closed = Some notes.Closed
 abbrev pub drawn_told : Plan → ℕ → Option PortState → Option StateNote
 drawn_told plan rank state = option_and_then (state_told plan rank) state
 
+-- how far an IPC process is a member of its DIF
+abbrev pub member_told : MemberState → MemberNote
+member_told of_members.Outside = member_notes.Outside
+member_told (of_members.Joining link) = member_notes.Joining link
+member_told of_members.Enrolled = member_notes.Enrolled
+member_told (of_members.Denied rule) = member_notes.Denied rule
+
 -- what `register` refused; `Memory` is not told
 abbrev pub register_told : RegisterError → Option Refusal
 register_told register.Memory = None
 register_told register.Already = Some refusals.Already
 register_told register.NoMember = Some refusals.NoMember
 register_told (register.CountSpent need left) = Some (refusals.CountSpent need left)
+
+-- what `publish` refused: of what the facility below refused, that
+abbrev pub publish_told : PublishError → Option Refusal
+publish_told publish.NoIpc = Some refusals.NoIpc
+publish_told (publish.Lower e) = register_told e
 
 -- what `unregister` refused
 abbrev pub unregister_told : UnregisterError → Option Refusal

@@ -1,5 +1,5 @@
 //! The states of labelled ports: which changed since they were told last.
-ghost use Rattle.std.specs.Prelude.{◌≡◌, ℕ, ◌^◌, ◌<◌, ◌≤◌, ◌++◌, true, Some, List, length, option_map, slice_get, slice_set, IfOk, OnOk, OnErr};
+ghost use Rattle.std.specs.Prelude.{◌≡◌, ◌≢◌, ℕ, ◌^◌, ◌<◌, ◌≤◌, ◌++◌, [], true, Some, List, is_some, length, option_map, slice_get, slice_set, IfOk, OnOk, OnErr};
 ghost use Rattle.rina_tower.specs.Stands.{IsTower};
 ghost use Rattle.rina_notes.specs.declared.label.Label.{Label};
 ghost use Rattle.rina_report.specs.declared.answer.Answer.TheVariants as answers;
@@ -162,7 +162,8 @@ fn say_label(
     label: &Label,
     state: Option<PortState>,
 ) -> Result<Option<Answer>, Memory>
-    ensures { IfOk result (λ o. o ≡ option_map (answers.Label label.now.name) (drawn_told plan.now label.now.rank state)) }
+    ensures told { IfOk result (λ o. o ≡ option_map (answers.Label label.now.name) (drawn_told plan.now label.now.rank state)) }
+    ensures memory { OnErr result (is_some (drawn_told plan.now label.now.rank state) ≡ true) }
 {
     match tell_drawn(alloc, plan, label.rank, state)? {
         Some(state) => {
@@ -185,6 +186,7 @@ fn tell_label(
     requires { state ≡ state_at tower.now label.now.rank label.now.port }
     ensures ok { OnOk result (trace.new ≡ trace.old ++ label_notes line.now.plan.now line.now.number tower.now label.now) }
     ensures err { OnErr result (trace.new ≡ trace.old) }
+    ensures memory { OnErr result (label_notes line.now.plan.now line.now.number tower.now label.now ≢ []) }
 {
     if is_same(state, label.shown) {
         return Ok(());
@@ -206,6 +208,7 @@ fn look_up_label(
     ensures notes { OnOk result ((l : Label) → slice_get labels.old at ≡ Some l → trace.new ≡ trace.old ++ label_notes line.now.plan.now line.now.number tower.now l) }
     ensures labels { OnOk result ((l : Label) → slice_get labels.old at ≡ Some l → labels.new ≡ slice_set labels.old at (shown_now tower.now l)) }
     ensures err { OnErr result (trace.new ≡ trace.old) }
+    ensures memory { OnErr result ((l : Label) → slice_get labels.old at ≡ Some l → label_notes line.now.plan.now line.now.number tower.now l ≢ []) }
 {
     let label = &labels.as_slice()[at];
     let state = state_at(tower, label.rank, label.port);
@@ -257,6 +260,7 @@ fn look_on(
     ensures within { IfOk result (λ next. next ≤ length labels.old) }
     ensures tells { IfOk result (λ next. (ls : List Label) (start : List Note) → HaveTold line.now.plan.now line.now.number tower.now ls start at labels.old trace.old → HaveTold line.now.plan.now line.now.number tower.now ls start next labels.new trace.new) }
     ensures err { OnErr result (trace.new ≡ trace.old) }
+    ensures memory { OnErr result ((l : Label) → slice_get labels.old at ≡ Some l → label_notes line.now.plan.now line.now.number tower.now l ≢ []) }
 {
     let next = skip_shown(row, labels, at);
     if next > at {
@@ -266,7 +270,7 @@ fn look_on(
     Ok(at + 1)
 }
 
-/// Tells the states of all labelled ports that changed since they were told last.
+/// Tells the states of all labelled ports that changed since they were told last. Where none did, no memory is taken.
 pub fn tell_labels(
     line: &Line<'_>,
     tower: &Tower,
@@ -277,6 +281,7 @@ pub fn tell_labels(
     ensures notes { OnOk result (trace.new ≡ trace.old ++ state_notes line.now.plan.now line.now.number tower.now labels.old) }
     ensures labels { OnOk result (labels.new ≡ looked tower.now labels.old) }
     ensures more { OnErr result (Extends trace.old trace.new) }
+    ensures memory { OnErr result (state_notes line.now.plan.now line.now.number tower.now labels.old ≢ []) }
 {
     let mut row = Row {
         rank: 0,

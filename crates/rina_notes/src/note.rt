@@ -1,5 +1,5 @@
 //! Notes of the lines that were run.
-ghost use Rattle.std.specs.Prelude.{◌≡◌, ◌++◌, option_map, OnOk, OnErr};
+ghost use Rattle.std.specs.Prelude.{◌≡◌, ◌++◌, true, is_some, option_map, OnOk, OnErr};
 ghost use Rattle.rina_tower.specs.Ranks.{now_of};
 ghost use Rattle.rina_notes.specs.Look.{noted};
 
@@ -16,10 +16,11 @@ pub fn tick_of(tower: &Tower) -> Tick
     tower.now()
 }
 
-/// Adds the note of what a line says at a tick, if it says anything.
+/// Adds the note of what a line says at a tick, if it says anything. Nothing takes no memory.
 pub fn tell(trace: &mut Notes, line: u32, tick: Tick, says: Option<Answer>) -> Result<(), Memory>
     ensures ok { OnOk result (trace.new ≡ trace.old ++ noted line tick says) }
     ensures err { OnErr result (trace.new ≡ trace.old) }
+    ensures memory { OnErr result (is_some says ≡ true) }
 {
     let Some(said) = says else {
         return Ok(());

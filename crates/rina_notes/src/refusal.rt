@@ -1,13 +1,14 @@
 //! What a call refused, as a note shows it.
-ghost use Rattle.std.specs.Prelude.{◌≡◌, IfOk};
-ghost use Rattle.rina_notes.specs.Told.{app_told, register_told, unregister_told, free_told, allocate_told, send_told, wire_told};
+ghost use Rattle.std.specs.Prelude.{◌≡◌, true, IfOk, OnErr};
+ghost use Rattle.rina_notes.specs.Copying.{copies_allocate, copies_app, copies_send};
+ghost use Rattle.rina_notes.specs.Told.{app_told, publish_told, register_told, unregister_told, free_told, allocate_told, send_told, wire_told};
 
 use crate::state::{tell_drawn, tell_fail};
 use rina_base::{Memory, Name};
 use rina_iface::{AllocateError, FreeError, RegisterError, SendError, UnregisterError};
 use rina_report::{PortNote, Refusal};
 use rina_stack::Plan;
-use rina_tower::AppError;
+use rina_tower::{AppError, PublishError};
 use rina_wire::WireError;
 use std::alloc::Global;
 
@@ -31,6 +32,16 @@ fn register_refusal(error: RegisterError) -> Option<Refusal>
         RegisterError::Already => Some(Refusal::Already),
         RegisterError::NoMember => Some(Refusal::NoMember),
         RegisterError::CountSpent { need, left } => Some(Refusal::CountSpent { need, left }),
+    }
+}
+
+/// What `publish` refused.
+pub fn tell_publish(error: PublishError) -> Option<Refusal>
+    ensures { result ≡ publish_told error }
+{
+    match error {
+        PublishError::NoIpc => Some(Refusal::NoIpc),
+        PublishError::Lower(error) => register_refusal(error),
     }
 }
 
@@ -92,7 +103,8 @@ pub fn tell_allocate(
     node: &Name,
     error: AppError<AllocateError>,
 ) -> Result<Option<Refusal>, Memory>
-    ensures { IfOk result (λ o. o ≡ app_told (allocate_told fac.now node.now) error) }
+    ensures told { IfOk result (λ o. o ≡ app_told (allocate_told fac.now node.now) error) }
+    ensures memory { OnErr result (copies_app copies_allocate error ≡ true) }
 {
     match error {
         AppError::NoRank => Ok(Some(Refusal::NoRank)),
@@ -108,7 +120,8 @@ fn allocate_refusal(
     node: &Name,
     error: AllocateError,
 ) -> Result<Option<Refusal>, Memory>
-    ensures { IfOk result (λ o. o ≡ allocate_told fac.now node.now error) }
+    ensures told { IfOk result (λ o. o ≡ allocate_told fac.now node.now error) }
+    ensures memory { OnErr result (copies_allocate error ≡ true) }
 {
     match error {
         AllocateError::Memory => Ok(None),
@@ -134,7 +147,8 @@ pub fn tell_send(
     rank: u16,
     error: SendError,
 ) -> Result<Option<Refusal>, Memory>
-    ensures { IfOk result (λ o. o ≡ send_told plan.now rank error) }
+    ensures told { IfOk result (λ o. o ≡ send_told plan.now rank error) }
+    ensures memory { OnErr result (copies_send plan.now rank error ≡ true) }
 {
     match error {
         SendError::Memory => Ok(None),
@@ -164,7 +178,8 @@ pub fn tell_app_send(
     rank: u16,
     error: AppError<SendError>,
 ) -> Result<Option<Refusal>, Memory>
-    ensures { IfOk result (λ o. o ≡ app_told (send_told plan.now rank) error) }
+    ensures told { IfOk result (λ o. o ≡ app_told (send_told plan.now rank) error) }
+    ensures memory { OnErr result (copies_app (copies_send plan.now rank) error ≡ true) }
 {
     match error {
         AppError::NoRank => Ok(Some(Refusal::NoRank)),

@@ -1,11 +1,13 @@
-//! Ports and their states, as notes show them: with the names of the stack in place of numbers.
-ghost use Rattle.std.specs.Prelude.{◌≡◌, IfOk, option_map, slice_get};
-ghost use Rattle.rina_notes.specs.Told.{facs_of, port_told, fail_told, state_told, drawn_told};
+//! Ports and their states, as notes show them: with the names of the stack in place of numbers; and states of members.
+ghost use Rattle.std.specs.Prelude.{◌≡◌, true, IfOk, OnErr, option_map, slice_get};
+ghost use Rattle.rina_notes.specs.Copying.{copies_drawn, copies_fail, copies_port, copies_state};
+ghost use Rattle.rina_notes.specs.Told.{facs_of, port_told, fail_told, member_told, state_told, drawn_told};
 
 use crate::facility::name_at;
+use rina_agent::MemberState;
 use rina_base::{Memory, Name, Port};
 use rina_iface::{Fail, PortState};
-use rina_report::{FailNote, PortNote, StateNote};
+use rina_report::{FailNote, MemberNote, PortNote, StateNote};
 use rina_stack::Plan;
 use std::alloc::Global;
 
@@ -28,7 +30,8 @@ pub fn tell_port(
     rank: u16,
     port: Port,
 ) -> Result<Option<PortNote>, Memory>
-    ensures { IfOk result (λ o. o ≡ port_told plan.now rank port) }
+    ensures told { IfOk result (λ o. o ≡ port_told plan.now rank port) }
+    ensures memory { OnErr result (copies_port plan.now rank port ≡ true) }
 {
     let Some(fac) = fac_name(plan, rank, port.fac) else {
         return Ok(None);
@@ -52,7 +55,8 @@ pub fn tell_fail(
     rank: u16,
     fail: Fail,
 ) -> Result<Option<FailNote>, Memory>
-    ensures { IfOk result (λ o. o ≡ fail_told plan.now rank fail) }
+    ensures told { IfOk result (λ o. o ≡ fail_told plan.now rank fail) }
+    ensures memory { OnErr result (copies_fail plan.now rank fail ≡ true) }
 {
     match fail {
         Fail::GaveUp { num, first, now } => Ok(Some(FailNote::GaveUp { num, first, now })),
@@ -71,7 +75,8 @@ pub fn tell_state(
     rank: u16,
     state: PortState,
 ) -> Result<Option<StateNote>, Memory>
-    ensures { IfOk result (λ o. o ≡ state_told plan.now rank state) }
+    ensures told { IfOk result (λ o. o ≡ state_told plan.now rank state) }
+    ensures memory { OnErr result (copies_state plan.now rank state ≡ true) }
 {
     match state {
         PortState::Pending => Ok(Some(StateNote::Pending)),
@@ -92,10 +97,25 @@ pub fn tell_drawn(
     rank: u16,
     state: Option<PortState>,
 ) -> Result<Option<StateNote>, Memory>
-    ensures { IfOk result (λ o. o ≡ drawn_told plan.now rank state) }
+    ensures told { IfOk result (λ o. o ≡ drawn_told plan.now rank state) }
+    ensures memory { OnErr result (copies_drawn plan.now rank state ≡ true) }
 {
     match state {
         Some(state) => tell_state(alloc, plan, rank, state),
         None => Ok(None),
+    }
+}
+
+/// How far an IPC process is a member of its DIF.
+pub fn tell_member(state: MemberState) -> MemberNote
+    ensures { result ≡ member_told state }
+{
+    match state {
+        MemberState::Outside => MemberNote::Outside,
+        MemberState::Joining { link } => MemberNote::Joining {
+            link: u32::from(link),
+        },
+        MemberState::Enrolled => MemberNote::Enrolled,
+        MemberState::Denied { rule } => MemberNote::Denied { rule },
     }
 }

@@ -1,5 +1,6 @@
 //! How a run tells single steps of a DIF of a rank, the write-offs of its ledgers, and the objects of its RIBs.
-ghost use Rattle.std.specs.Prelude.{◌≡◌, IfOk};
+ghost use Rattle.std.specs.Prelude.{◌≡◌, true, IfOk, OnErr};
+ghost use Rattle.rina_notes.specs.Copying.{copies_cause, copies_clock, copies_in, copies_off, copies_out, copies_took};
 ghost use Rattle.rina_notes.specs.StepTold.{cause_told, cdap_told, clock_note, clock_told, fault_told, in_told, object_told, off_told, out_told, step_told, took_told};
 
 use crate::refusal::tell_send;
@@ -21,7 +22,8 @@ pub fn tell_cause(
     rank: u16,
     cause: Cause,
 ) -> Result<Option<CauseNote>, Memory>
-    ensures { IfOk result (λ o. o ≡ cause_told plan.now rank cause) }
+    ensures told { IfOk result (λ o. o ≡ cause_told plan.now rank cause) }
+    ensures memory { OnErr result (copies_cause plan.now rank cause ≡ true) }
 {
     match cause {
         Cause::Expired { left, charge } => Ok(Some(CauseNote::Expired { left, charge })),
@@ -43,7 +45,8 @@ pub fn tell_cause(
 
 /// What a step did with the PDU that it took.
 fn tell_took(alloc: Global, plan: &Plan, rank: u16, took: Took) -> Result<Option<TookNote>, Memory>
-    ensures { IfOk result (λ o. o ≡ took_told plan.now rank took) }
+    ensures told { IfOk result (λ o. o ≡ took_told plan.now rank took) }
+    ensures memory { OnErr result (copies_took plan.now rank took ≡ true) }
 {
     match took {
         Took::Accepted => Ok(Some(TookNote::Accepted)),
@@ -62,7 +65,8 @@ pub fn tell_in(
     rank: u16,
     step: InStep,
 ) -> Result<Option<Answer>, Memory>
-    ensures { IfOk result (λ o. o ≡ in_told plan.now rank step) }
+    ensures told { IfOk result (λ o. o ≡ in_told plan.now rank step) }
+    ensures memory { OnErr result (copies_in plan.now rank step ≡ true) }
 {
     match step {
         InStep::Idle => Ok(Some(Answer::Idle)),
@@ -80,7 +84,8 @@ pub fn tell_out(
     rank: u16,
     step: OutStep,
 ) -> Result<Option<Answer>, Memory>
-    ensures { IfOk result (λ o. o ≡ out_told plan.now rank step) }
+    ensures told { IfOk result (λ o. o ≡ out_told plan.now rank step) }
+    ensures memory { OnErr result (copies_out plan.now rank step ≡ true) }
 {
     match step {
         OutStep::Idle => Ok(Some(Answer::Idle)),
@@ -103,7 +108,8 @@ fn note_clock(
     rank: u16,
     step: ClockStep,
 ) -> Result<Option<ClockNote>, Memory>
-    ensures { IfOk result (λ o. o ≡ clock_note plan.now rank step) }
+    ensures told { IfOk result (λ o. o ≡ clock_note plan.now rank step) }
+    ensures memory { OnErr result (copies_clock plan.now rank step ≡ true) }
 {
     match step {
         ClockStep::Idle => Ok(None),
@@ -134,7 +140,8 @@ pub fn tell_clock(
     rank: u16,
     step: ClockStep,
 ) -> Result<Option<Answer>, Memory>
-    ensures { IfOk result (λ o. o ≡ clock_told plan.now rank step) }
+    ensures told { IfOk result (λ o. o ≡ clock_told plan.now rank step) }
+    ensures memory { OnErr result (copies_clock plan.now rank step ≡ true) }
 {
     if let ClockStep::Idle = step {
         return Ok(Some(Answer::Idle));
@@ -159,7 +166,8 @@ pub fn tell_step(error: StepError) -> Option<Refusal>
 
 /// A line of a ledger.
 pub fn tell_off(alloc: Global, plan: &Plan, rank: u16, off: &Off) -> Result<Option<Answer>, Memory>
-    ensures { IfOk result (λ o. o ≡ off_told plan.now rank off.now) }
+    ensures told { IfOk result (λ o. o ≡ off_told plan.now rank off.now) }
+    ensures memory { OnErr result (copies_off plan.now rank off.now ≡ true) }
 {
     let key = off.key;
     match tell_cause(alloc, plan, rank, off.cause)? {

@@ -8,7 +8,7 @@ use Rattle.rina_table.specs.declared.error.StackError.{StackError}
 use Rattle.rina_table.specs.declared.error.StackError.TheVariants.{Memory, NotToml, StackRule}
 use Rattle.rina_stack.specs.declared.plan.Plan.{Plan}
 use Rattle.rina_stack.specs.Policies.{is_built_in}
-use Rattle.rina_stack.specs.Runnable.{ReadsRunnable}
+use Rattle.rina_stack.specs.Stack.{Reads}
 use Rattle.rina_view.specs.declared.ending.Status.{Status}
 use Rattle.rina_view.specs.declared.ending.Status.TheVariants as statuses
 use Rattle.rina_view.specs.Outcome.{Tells, TellsInput}
@@ -35,19 +35,19 @@ pairs_none plan found old new status is w = subst (λ (o : Option ℕ). TellsPai
 
 -- An input
 
-told_as : (table : Table) (name bytes : List ℕ) (read is : Result Plan StackError) (old new : Option (List ℕ)) (status : Status) → ReadsRunnable is_built_in read bytes → read ≡ is → TellsRead table name is old new status → TellsStack table name bytes old new status
+told_as : (table : Table) (name bytes : List ℕ) (read is : Result Plan StackError) (old new : Option (List ℕ)) (status : Status) → Reads is_built_in read bytes → read ≡ is → TellsRead table name is old new status → TellsStack table name bytes old new status
 told_as table name bytes read is old new status reads same told = record { read = read; reads = reads; told = subst (λ (r : Result Plan StackError). TellsRead table name r old new status) (sym same) told }
 
-pub told_plan : (table : Table) (name bytes : List ℕ) (read : Result Plan StackError) (plan : Plan) (old new : Option (List ℕ)) (status : Status) → ReadsRunnable is_built_in read bytes → read ≡ Ok plan → TellsTable table name plan old new status → TellsStack table name bytes old new status
+pub told_plan : (table : Table) (name bytes : List ℕ) (read : Result Plan StackError) (plan : Plan) (old new : Option (List ℕ)) (status : Status) → Reads is_built_in read bytes → read ≡ Ok plan → TellsTable table name plan old new status → TellsStack table name bytes old new status
 told_plan table name bytes read plan old new status reads same told = told_as table name bytes read (Ok plan) old new status reads same told
 
-pub told_nothing : (table : Table) (name bytes : List ℕ) (read : Result Plan StackError) (old : Option (List ℕ)) (status : Status) → ReadsRunnable is_built_in read bytes → read ≡ Err Memory → status ≡ statuses.Memory → TellsStack table name bytes old old status
+pub told_nothing : (table : Table) (name bytes : List ℕ) (read : Result Plan StackError) (old : Option (List ℕ)) (status : Status) → Reads is_built_in read bytes → read ≡ Err Memory → status ≡ statuses.Memory → TellsStack table name bytes old old status
 told_nothing table name bytes read old status reads same is = told_as table name bytes read (Err Memory) old old status reads same (is, Appends-nil old)
 
-pub told_no_toml : (table : Table) (name bytes : List ℕ) (read : Result Plan StackError) (old new : Option (List ℕ)) (status : Status) → ReadsRunnable is_built_in read bytes → read ≡ Err NotToml → Writes (line_of (notes.Fault faults.NotToml)) statuses.Refused old new status → TellsStack table name bytes old new status
+pub told_no_toml : (table : Table) (name bytes : List ℕ) (read : Result Plan StackError) (old new : Option (List ℕ)) (status : Status) → Reads is_built_in read bytes → read ≡ Err NotToml → Writes (line_of (notes.Fault faults.NotToml)) statuses.Refused old new status → TellsStack table name bytes old new status
 told_no_toml table name bytes read old new status reads same w = told_as table name bytes read (Err NotToml) old new status reads same w
 
-pub told_rule : (table : Table) (name bytes : List ℕ) (read : Result Plan StackError) (n item : ℕ) (old new : Option (List ℕ)) (status : Status) → ReadsRunnable is_built_in read bytes → read ≡ Err (StackRule n item) → Writes (line_of (notes.Fault (faults.StackRule n item))) statuses.Refused old new status → TellsStack table name bytes old new status
+pub told_rule : (table : Table) (name bytes : List ℕ) (read : Result Plan StackError) (n item : ℕ) (old new : Option (List ℕ)) (status : Status) → Reads is_built_in read bytes → read ≡ Err (StackRule n item) → Writes (line_of (notes.Fault (faults.StackRule n item))) statuses.Refused old new status → TellsStack table name bytes old new status
 told_rule table name bytes read n item old new status reads same w = told_as table name bytes read (Err (StackRule n item)) old new status reads same w
 
 -- Words

@@ -10,7 +10,7 @@ use Rattle.rina_table.specs.declared.error.StackError.{StackError}
 use Rattle.rina_table.specs.declared.error.StackError.TheVariants.{Memory, NotToml, StackRule}
 use Rattle.rina_stack.specs.declared.plan.Plan.{Plan}
 use Rattle.rina_stack.specs.Policies.{is_built_in}
-use Rattle.rina_stack.specs.Runnable.{ReadsRunnable}
+use Rattle.rina_stack.specs.Stack.{Reads}
 use Rattle.rina_view.specs.declared.ending.Status.{Status}
 use Rattle.rina_view.specs.declared.ending.Status.TheVariants as statuses
 use Rattle.rina_view.specs.Outcome.{Tells, TellsInput}
@@ -51,7 +51,7 @@ TellsRead table name (Err Memory) old new status = (status ≡ statuses.Memory) 
 -- what is told of an input that was read whole: it is read as a stack that runs, with the built-in policies
 pub record TellsStack (table : Table) (name : List ℕ) (bytes : List ℕ) (old new : Option (List ℕ)) (status : Status) : Type 0 where
   pub read : Result Plan StackError
-  pub reads : ReadsRunnable is_built_in read bytes
+  pub reads : Reads is_built_in read bytes
   pub told : TellsRead table name read old new status
 
 -- what `promises` asks for with these words behind it: of all flows, or of the DIF that the one word names

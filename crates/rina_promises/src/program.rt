@@ -13,7 +13,7 @@ use rina_base::Memory;
 use rina_io::{Ending, Sink, Source, take_all};
 use rina_plan::DifPlan;
 use rina_report::Fault;
-use rina_stack::{BuiltIn, Plan, StackError, read_runnable};
+use rina_stack::{BuiltIn, Plan, StackError, read_stack};
 use rina_view::{Status, refuse, view, write};
 use std::alloc::Global;
 
@@ -110,7 +110,7 @@ fn promises_of<K: Sink>(
 ) -> Status
     ensures { TellsStack table name.now bytes.now (K.took out.old) (K.took out.new) result }
 {
-    match read_runnable(alloc, bytes, &BuiltIn) {
+    match read_stack(alloc, bytes, &BuiltIn) {
         Ok(plan) => table_of_plan(alloc, table, name, &plan, out),
         Err(StackError::Memory) => Status::Memory,
         Err(StackError::NotToml) => refuse(alloc, out, Fault::NotToml),

@@ -11,7 +11,7 @@ use Rattle.rina_report.specs.declared.note.Note.TheVariants as notes
 use Rattle.rina_report.specs.declared.note.Fault.{Fault}
 use Rattle.rina_schedule.specs.declared.error.LineError.{LineError}
 use Rattle.rina_stack.specs.declared.plan.Plan.{Plan}
-use Rattle.rina_stack.specs.Runnable.{ReadsRunnable}
+use Rattle.rina_stack.specs.Stack.{Reads}
 use Rattle.rina_report.specs.declared.note.Fault.TheVariants as faults
 use Rattle.rina_table.specs.declared.error.StackError.{StackError}
 use Rattle.rina_table.specs.declared.error.StackError.TheVariants as stack
@@ -98,10 +98,10 @@ pub bad_tells : (ending : Ending) (plan : Plan) (lines : List (List ℕ)) (bad :
 bad_tells ending plan lines bad fault (fine, first) is = inl (fine, bad, first, ap (λ (f : Fault). notes.Fault f) is)
 
 -- a stack that was not accepted
-pub stack_tells : (known : List ℕ → Bool) (ending : Ending) (s : Script) (error : StackError) (fault : Fault) → ReadsRunnable known (Err error) s.stack → stack_fault error ≡ Some fault → IsStackAlone ending s → ScriptTells known ending s (notes.Fault fault)
+pub stack_tells : (known : List ℕ → Bool) (ending : Ending) (s : Script) (error : StackError) (fault : Fault) → Reads known (Err error) s.stack → stack_fault error ≡ Some fault → IsStackAlone ending s → ScriptTells known ending s (notes.Fault fault)
 stack_tells known ending s error fault reads is alone = inl (alone, (error, reads, fault, is, refl))
 
-pub rule_tells : (known : List ℕ → Bool) (ending : Ending) (s : Script) (n item : ℕ) (note : Note) → ReadsRunnable known (Err (stack.StackRule n item)) s.stack → note ≡ notes.Fault (faults.StackRule n item) → IsStackAlone ending s → ScriptTells known ending s note
+pub rule_tells : (known : List ℕ → Bool) (ending : Ending) (s : Script) (n item : ℕ) (note : Note) → Reads known (Err (stack.StackRule n item)) s.stack → note ≡ notes.Fault (faults.StackRule n item) → IsStackAlone ending s → ScriptTells known ending s note
 rule_tells known ending s n item note reads is alone = inl (alone, (stack.StackRule n item, reads, faults.StackRule n item, refl, is))
 
 -- what the one note of a check tells of the faults of reading

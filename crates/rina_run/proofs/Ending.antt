@@ -12,7 +12,7 @@ use Rattle.rina_schedule.specs.Errors.{number_of, field_of}
 use Rattle.rina_stack.specs.declared.plan.Plan.{Plan}
 use Rattle.rina_table.specs.declared.error.StackError.{StackError}
 use Rattle.rina_table.specs.declared.error.StackError.TheVariants as stack
-use Rattle.rina_stack.specs.Runnable.{ReadsRunnable}
+use Rattle.rina_stack.specs.Stack.{Reads}
 use Rattle.rina_iface.specs.declared.state.Fail.{Fail}
 use Rattle.rina_iface.specs.declared.state.Fail.TheVariants.{GaveUp, Below, Cut}
 use Rattle.rina_iface.specs.declared.state.PortState.TheVariants.{Failed}
@@ -133,14 +133,14 @@ stop_from plan ending lines start t u tower shelf' stops.Memory ran left after n
 stop_from plan ending lines start t u tower shelf' stops.WriteFault ran left after names = record { reached = u; stopped = inl ran; left = left; after = after }
 
 -- a stack that is no TOML, or breaks a rule
-refused_stack : (known : List ℕ → Bool) (ending : Ending) (s : Script) (shelf : List Slot) (status : Status) (t : List Note) (tower : Option Tower) (shelf' : List Slot) (error : StackError) (fault : Fault) → ReadsRunnable known (Err error) s.stack → stack_fault error ≡ Some fault → IsStackAlone ending s → RefusedBy fault status t → tower ≡ None → shelf' ≡ shelf → ScriptOutcomes known ending s shelf status t tower shelf'
+refused_stack : (known : List ℕ → Bool) (ending : Ending) (s : Script) (shelf : List Slot) (status : Status) (t : List Note) (tower : Option Tower) (shelf' : List Slot) (error : StackError) (fault : Fault) → Reads known (Err error) s.stack → stack_fault error ≡ Some fault → IsStackAlone ending s → RefusedBy fault status t → tower ≡ None → shelf' ≡ shelf → ScriptOutcomes known ending s shelf status t tower shelf'
 refused_stack known ending s shelf status t None shelf' error fault reads is alone refused left same = (inr (record { alone = alone; error = error; reads = reads; fault = fault; is_its = is; refused = refused }), same)
 refused_stack known ending s shelf status t (Some a) shelf' error fault reads is alone refused left same = cc
 
-pub not_toml_from : (known : List ℕ → Bool) (ending : Ending) (s : Script) (shelf : List Slot) (status : Status) (t : List Note) (tower : Option Tower) (shelf' : List Slot) → ReadsRunnable known (Err stack.NotToml) s.stack → IsStackAlone ending s → RefusedBy faults.NotToml status t → tower ≡ None → shelf' ≡ shelf → ScriptOutcomes known ending s shelf status t tower shelf'
+pub not_toml_from : (known : List ℕ → Bool) (ending : Ending) (s : Script) (shelf : List Slot) (status : Status) (t : List Note) (tower : Option Tower) (shelf' : List Slot) → Reads known (Err stack.NotToml) s.stack → IsStackAlone ending s → RefusedBy faults.NotToml status t → tower ≡ None → shelf' ≡ shelf → ScriptOutcomes known ending s shelf status t tower shelf'
 not_toml_from known ending s shelf status t tower shelf' reads alone refused left same = refused_stack known ending s shelf status t tower shelf' stack.NotToml faults.NotToml reads refl alone refused left same
 
-pub rule_from : (known : List ℕ → Bool) (ending : Ending) (s : Script) (shelf : List Slot) (status : Status) (t : List Note) (tower : Option Tower) (shelf' : List Slot) (n item : ℕ) → ReadsRunnable known (Err (stack.StackRule n item)) s.stack → IsStackAlone ending s → RefusedBy (faults.StackRule n item) status t → tower ≡ None → shelf' ≡ shelf → ScriptOutcomes known ending s shelf status t tower shelf'
+pub rule_from : (known : List ℕ → Bool) (ending : Ending) (s : Script) (shelf : List Slot) (status : Status) (t : List Note) (tower : Option Tower) (shelf' : List Slot) (n item : ℕ) → Reads known (Err (stack.StackRule n item)) s.stack → IsStackAlone ending s → RefusedBy (faults.StackRule n item) status t → tower ≡ None → shelf' ≡ shelf → ScriptOutcomes known ending s shelf status t tower shelf'
 rule_from known ending s shelf status t tower shelf' n item reads alone refused left same = refused_stack known ending s shelf status t tower shelf' (stack.StackRule n item) (faults.StackRule n item) reads refl alone refused left same
 
 -- memory was not found for the stack
@@ -149,7 +149,7 @@ no_memory_from known ending s shelf status t None shelf' m same = (inl m, same)
 no_memory_from known ending s shelf status t (Some a) shelf' m same = let no : Some a ≡ None = m.left in cc
 
 -- a stack that was accepted
-pub script_from : (known : List ℕ → Bool) (ending : Ending) (s : Script) (shelf : List Slot) (w : Run) (status : Status) (t : List Note) (tower : Option Tower) (shelf' : List Slot) (plan : Plan) → ReadsRunnable known (Ok plan) s.stack → ((slots : List Slot) → IsOpening plan slots (stage w slots)) → IsSome tower → PlayOutcomes plan ending s.lines (stage w shelf) status t tower shelf' → ScriptOutcomes known ending s shelf status t tower shelf'
+pub script_from : (known : List ℕ → Bool) (ending : Ending) (s : Script) (shelf : List Slot) (w : Run) (status : Status) (t : List Note) (tower : Option Tower) (shelf' : List Slot) (plan : Plan) → Reads known (Ok plan) s.stack → ((slots : List Slot) → IsOpening plan slots (stage w slots)) → IsSome tower → PlayOutcomes plan ending s.lines (stage w shelf) status t tower shelf' → ScriptOutcomes known ending s shelf status t tower shelf'
 script_from known ending s shelf w status t (Some a) shelf' plan reads opens is played = (plan, reads, stage w shelf, opens shelf, played)
 script_from known ending s shelf w status t None shelf' plan reads opens is played = cc
 

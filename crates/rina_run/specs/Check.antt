@@ -7,7 +7,7 @@ use Rattle.rina_report.specs.declared.note.Fault.{Fault}
 use Rattle.rina_schedule.specs.declared.error.LineError.{LineError}
 use Rattle.rina_schedule.specs.declared.event.Event.{Event}
 use Rattle.rina_stack.specs.declared.plan.Plan.{Plan}
-use Rattle.rina_stack.specs.Runnable.{ReadsRunnable}
+use Rattle.rina_stack.specs.Stack.{Reads}
 use Rattle.rina_table.specs.declared.error.StackError.{StackError}
 use Rattle.rina_words.specs.Built.{event_at}
 use Rattle.rina_run.specs.declared.check.Checked.{Checked}
@@ -57,11 +57,11 @@ LinesTell ending plan lines note = (IsFine ending × (bad : BadLine) × IsFirstB
 
 -- what is told of a stack that was not accepted
 abbrev pub StackTells : (List ℕ → Bool) → List ℕ → Note → Type 0
-StackTells known text note = (error : StackError) × ReadsRunnable known (Err error) text × (fault : Fault) × (stack_fault error ≡ Some fault) × (note ≡ notes.Fault fault)
+StackTells known text note = (error : StackError) × Reads known (Err error) text × (fault : Fault) × (stack_fault error ≡ Some fault) × (note ≡ notes.Fault fault)
 
 -- what is told of a script: the fault of its stack, before the schedule is read, or what is told of its lines
 abbrev pub ScriptTells : (List ℕ → Bool) → Ending → Script → Note → Type 0
-ScriptTells known ending s note = (IsStackAlone ending s × StackTells known s.stack note) ⊎ ((plan : Plan) × ReadsRunnable known (Ok plan) s.stack × LinesTell ending plan s.lines note)
+ScriptTells known ending s note = (IsStackAlone ending s × StackTells known s.stack note) ⊎ ((plan : Plan) × Reads known (Ok plan) s.stack × LinesTell ending plan s.lines note)
 
 -- what is told of an input: where no mark was among what was read, the fault that reading broke off with
 abbrev pub InputTells : (List ℕ → Bool) → Ending → Option Script → Note → Type 0

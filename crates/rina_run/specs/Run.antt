@@ -1,5 +1,5 @@
 -- A run: the lines of a schedule one after the other, from a tower that was just built.
-use Rattle.std.specs.Prelude.{◌≡◌, ℕ, ◌+◌, ◌≤◌, List, [], ◌∷◌, ◌++◌, length, take, Option, Some, None, Result, Ok, Err, ◌⊎◌}
+use Rattle.std.specs.Prelude.{◌≡◌, ◌≢◌, ℕ, ◌+◌, ◌≤◌, List, [], ◌∷◌, ◌++◌, length, slice_get, take, Option, Some, None, Result, Ok, Err, ◌⊎◌}
 use Rattle.rina_report.specs.declared.note.Note.{Note}
 use Rattle.rina_schedule.specs.declared.error.LineError.{LineError}
 use Rattle.rina_schedule.specs.declared.event.Event.{Event}
@@ -37,18 +37,23 @@ pub record IsBad (line : List ℕ) (e : LineError) (s : Stage) (old : List Note)
   pub same : s' ≡ s
   pub trace : new ≡ old
 
--- what is known after a line was read and run
+-- the line asks for something: it is neither blank nor a comment
+abbrev pub Asks : List ℕ → Type 0
+Asks line = event_at line ≢ Ok None
+
+-- what is known after a line was read and run; memory is wanted only for a line that asks for something
 abbrev pub LineRan : Plan → ℕ → List ℕ → Stage → List Note → Stage → List Note → Result (Option LineError) Stop → Type 0
 LineRan plan number line s old s' new (Ok (Some e)) = IsBad line e s old s' new
 LineRan plan number line s old s' new (Ok None) = Leads (λ ns. LineDoes plan number (event_at line) s ns s') old new
-LineRan plan number line s old s' new (Err stops.Memory) = (new ≡ old) ⊎ Leads (λ ns. LineDoes plan number (event_at line) s ns s') old new
+LineRan plan number line s old s' new (Err stops.Memory) = Asks line × ((new ≡ old) ⊎ Leads (λ ns. LineDoes plan number (event_at line) s ns s') old new)
 LineRan plan number line s old s' new (Err stops.WriteFault) = Leads (λ ns. LineDoes plan number (event_at line) s ns s') old new
 
--- all lines were run, or all but the last, each with all of its notes
+-- all lines were run, or all but the last, each with all of its notes; a line that was not run asks for something
 pub record RanFirst (plan : Plan) (s : Stage) (lines : List (List ℕ)) (trace : List Note) (s' : Stage) : Type 0 where
   pub count : ℕ
   pub most : length lines ≤ count + 1
   pub runs : Runs plan 1 s (take count lines) trace s'
+  pub asks : (line : List ℕ) → slice_get lines count ≡ Some line → Asks line
 
 -- the last of the lines is outside the grammar, and those before it were run
 pub record StopsAt (plan : Plan) (s : Stage) (lines : List (List ℕ)) (bad : BadLine) (trace : List Note) (s' : Stage) : Type 0 where

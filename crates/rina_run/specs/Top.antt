@@ -15,7 +15,7 @@ use Rattle.rina_schedule.specs.Errors.{number_of, field_of}
 use Rattle.rina_stack.specs.declared.plan.Plan.{Plan}
 use Rattle.rina_table.specs.declared.error.StackError.{StackError}
 use Rattle.rina_table.specs.declared.error.StackError.TheVariants as stack
-use Rattle.rina_stack.specs.Runnable.{ReadsRunnable}
+use Rattle.rina_stack.specs.Stack.{Reads}
 use Rattle.rina_tower.specs.declared.tower.Tower.{Tower}
 use Rattle.rina_tower.specs.Ranks.{now_of, rank_of, seen_of}
 use Rattle.rina_run.specs.declared.lines.BadLine.{BadLine}
@@ -133,14 +133,14 @@ IsStackAlone ending s = IsFine ending × (s.lines ≡ [])
 pub record IsRefusedStack (known : List ℕ → Bool) (ending : Ending) (s : Script) (status : Status) (trace : List Note) : Type 0 where
   pub alone : IsStackAlone ending s
   pub error : StackError
-  pub reads : ReadsRunnable known (Err error) s.stack
+  pub reads : Reads known (Err error) s.stack
   pub fault : Fault
   pub is_its : stack_fault error ≡ Some fault
   pub refused : RefusedBy fault status trace
 
 -- the outcome of a script: its lines were run where its stack was accepted and memory was found for it, and else the shelf is as it was
 abbrev pub ScriptOutcomes : (List ℕ → Bool) → Ending → Script → List Slot → Status → List Note → Option Tower → List Slot → Type 0
-ScriptOutcomes known ending s shelf status trace (Some t) shelf' = (plan : Plan) × ReadsRunnable known (Ok plan) s.stack × (start : Stage) × IsOpening plan shelf start × PlayOutcomes plan ending s.lines start status trace (Some t) shelf'
+ScriptOutcomes known ending s shelf status trace (Some t) shelf' = (plan : Plan) × Reads known (Ok plan) s.stack × (start : Stage) × IsOpening plan shelf start × PlayOutcomes plan ending s.lines start status trace (Some t) shelf'
 ScriptOutcomes known ending s shelf status trace None shelf' = (IsOutOfMemory status trace None ⊎ IsRefusedStack known ending s status trace) × (shelf' ≡ shelf)
 
 -- the outcome of an input: where no mark was among what was read, the fault is told

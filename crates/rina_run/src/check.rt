@@ -1,11 +1,12 @@
 //! Checking an input: its stack and its lines are read, and nothing is run.
-ghost use Rattle.std.specs.Prelude.{◌≡◌, ◌<◌, ◌^◌, ℕ, List, [], None, Option, IfOk};
+ghost use Rattle.std.specs.Prelude.{◌≡◌, ◌<◌, ◌^◌, ℕ, List, [], None, Option, IfOk, OnErr};
 ghost use Rattle.rina_io.specs.NextLine.{IsSound};
 ghost use Rattle.rina_io.specs.Reader.{size};
 ghost use Rattle.rina_stack.specs.Plan.{IsPlan};
 ghost use Rattle.rina_run.specs.Check.{AreReadAs, CheckOutcomes, InputTells, IsReadAs, LinesTell, counts_of, status_beside};
 ghost use Rattle.rina_run.specs.Outcomes.{IsChecked};
 ghost use Rattle.rina_run.specs.Reading.{Broken, HasRead, HasText, ReadBehind};
+ghost use Rattle.rina_run.specs.Run.{Asks};
 ghost use Rattle.rina_run.specs.Top.{ClosedBy, WasRead};
 ghost use Rattle.rina_run.specs.Written.{Written};
 ghost use Rattle.rina_run.specs.Faults.{CheckFaults, NoteFaults, ReadFaults, WriteFaults};
@@ -33,9 +34,10 @@ pub enum Checked {
     Bad(BadLine),
 }
 
-/// Whether a line holds an event, or the fault of a line outside the grammar.
+/// Whether a line holds an event, or the fault of a line outside the grammar. A blank line and a comment take no memory.
 fn read_one(alloc: Global, line: &[u8]) -> Result<Result<bool, LineError>, Memory>
-    ensures { IfOk result (IsReadAs line.now) }
+    ensures read { IfOk result (IsReadAs line.now) }
+    ensures memory { OnErr result (Asks line.now) }
 {
     match read_event(alloc, line) {
         Ok(event) => Ok(Ok(event.is_some())),

@@ -2,7 +2,7 @@
 ghost use Rattle.std.specs.Prelude.{ℕ, List, [], Option, IfOk};
 ghost use Rattle.rina_io.specs.NextLine.{IsSound};
 ghost use Rattle.rina_stack.specs.Plan.{IsPlan};
-ghost use Rattle.rina_stack.specs.Runnable.{ReadsRunnable};
+ghost use Rattle.rina_stack.specs.Stack.{Reads};
 ghost use Rattle.rina_run.specs.Reading.{HasRead, HeadRead, NextGoesOn, NextRead};
 ghost use Rattle.rina_run.specs.Faults.{HeadFaults, NextFaults};
 
@@ -10,7 +10,7 @@ use crate::input::is_mark_line;
 use rina_base::Memory;
 use rina_io::{LineReader, ReadError, Source};
 use rina_report::Fault;
-use rina_stack::{Plan, Policies, StackError, read_runnable};
+use rina_stack::{Plan, Policies, StackError};
 use std::alloc::Global;
 
 /// What stands next in an input.
@@ -82,8 +82,8 @@ pub fn read_stack<S: Source>(
 
 /// The plan of a stack, whose text is let go.
 pub fn plan_of<P: Policies>(alloc: Global, text: Vec<u8>, shelf: &P) -> Result<Plan, StackError>
-    ensures reads { ReadsRunnable (P.knows shelf.now) result text.items }
+    ensures reads { Reads (P.knows shelf.now) result text.items }
     ensures plan { IfOk result IsPlan }
 {
-    read_runnable(alloc, text.as_slice(), shelf)
+    rina_stack::read_stack(alloc, text.as_slice(), shelf)
 }

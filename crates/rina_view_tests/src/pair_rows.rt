@@ -2,7 +2,8 @@
 //! wire charges its `life`, a reliable flow below its `r + mpl`, the slack is the `mpl` of the cube less the charges, and a trip is the charges there and
 //! back and the cube's `a`.
 
-/// The pairs of members of three DIFs; a wire, which has none; a further word; and an input that is no stack.
+/// The pairs of members of three DIFs; a wire, which has none; a further word; an input that is no stack; and a DIF that is not static, in which no way leads from
+/// one member to the other.
 pub(crate) static PAIR_ROWS: &str = "\
 promises d
 # Two wires of life 12, and a DIF over both: the lifetime of the second cube is a tick too short for them.
@@ -235,4 +236,32 @@ promises d
 nodes = [
 ----
 fault NotToml
+====
+promises d
+nodes = [\"a\", \"b\"]
+
+[[wire]]
+name = \"w\"
+ends = [\"a\", \"b\"]
+delay = 2
+life = 10
+largest = 1500
+
+[[dif]]
+name = \"d\"
+rank = 1
+pdu = 400
+widths = { addr = 1, cep = 1, len = 2, seq = 2 }
+queue = 64
+policy = \"strict\"
+wait = 500
+manage = { mpl = 40, r = 30, a = 2, retry = 10, window = 8 }
+cube = [
+  { id = 1, kind = \"datagram\", mpl = 40, window = 16, largest = 80 },
+]
+member = [{ node = \"a\", addr = 1 }, { node = \"b\", addr = 2 }]
+----
+facility from to cube way charges slack window pieces trip promise
+d a b 1 - - - 16 1 - at most once, in any order, within 40 ticks; no way
+d b a 1 - - - 16 1 - at most once, in any order, within 40 ticks; no way
 ";

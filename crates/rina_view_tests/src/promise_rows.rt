@@ -177,4 +177,29 @@ life = 10
 largest = 1500
 ----
 fault StackRule 8 1
+====
+nodes = [\"a\", \"b\"]
+
+[[wire]]
+name = \"w\"
+ends = [\"a\", \"b\"]
+delay = 2
+life = 10
+largest = 1500
+
+[[dif]]
+name = \"d\"
+rank = 1
+pdu = 400
+widths = { addr = 1, cep = 1, len = 2, seq = 2 }
+queue = 64
+policy = \"strict\"
+wait = 500
+manage = { mpl = 40, r = 30, a = 2, retry = 10, window = 8 }
+cube = [
+  { id = 1, kind = \"datagram\", mpl = 40, window = 16, largest = 80 },
+]
+member = [{ node = \"a\", addr = 1 }, { node = \"b\", addr = 2 }]
+----
+facility from to cube way charges slack window pieces trip promise
 ";

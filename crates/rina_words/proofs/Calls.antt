@@ -1,5 +1,5 @@
 -- Single steps of a DIF, as a line does them.
-use Rattle.std.proofs.Common.{◌≡◌, ◌≢◌, ℕ, List, Option, Some, Result, Ok, Err, IfOk, refl, subst}
+use Rattle.std.proofs.Common.{◌≡◌, ◌≢◌, ℕ, true, List, Option, Some, Result, Ok, Err, IfOk, OnErr, refl, subst, inr}
 use Rattle.rina_base.specs.declared.memory.Memory.{Memory}
 use Rattle.rina_data.specs.declared.step.InStep.{InStep}
 use Rattle.rina_data.specs.declared.step.OutStep.{OutStep}
@@ -18,8 +18,10 @@ use Rattle.rina_tower.specs.Rounds.{Anything}
 use Rattle.rina_tower.specs.Steps.{InSteps, OutSteps}
 use Rattle.rina_tower.proofs.Answering.{any_place}
 use Rattle.rina_notes.specs.declared.site.Site.{Site}
+use Rattle.rina_notes.specs.Copying.{copies_in, copies_out}
 use Rattle.rina_words.specs.declared.run.Run.{Run}
 use Rattle.rina_words.specs.Step.{CallsCdap, CallsIn, CallsOut, link_of, stage}
+use Rattle.rina_words.specs.Wanting.{WantsToLetOut, WantsToTakeIn}
 use Rattle.rina_notes.specs.StepTold.{cdap_told, in_told, out_told, step_told}
 use Rattle.rina_notes.specs.Told.{answer_told}
 
@@ -31,10 +33,19 @@ pub calls_in : (plan : Plan) (link n : ℕ) (w : Run) (site : Site) (result : Re
 calls_in plan link n w site result t (Err e) is memory does told = tt
 calls_in plan link n w site result t (Ok says) is memory does told = record { result = result; memory = memory; does = subst (λ (k : ℕ). InSteps site.rank site.fac site.node k result w.tower t) is does; labels = refl; told = told }
 
+-- where telling it wants memory
+pub wants_in : (plan : Plan) (link n : ℕ) (w : Run) (site : Site) (step : InStep) (t : Tower) (r : Result (Option Answer) Memory) → n ≡ link_of link → InSteps site.rank site.fac site.node n (Ok step) w.tower t → OnErr r (copies_in plan site.rank step ≡ true) → OnErr r (WantsToTakeIn plan link w (moved w t) site)
+wants_in plan link n w site step t (Ok says) is does copied = tt
+wants_in plan link n w site step t (Err e) is does copied = inr (step, subst (λ (k : ℕ). InSteps site.rank site.fac site.node k (Ok step) w.tower t) is does, copied)
+
 -- a step that gives to a link
 pub calls_out : (may : List ℕ → ℕ → List Head → ℕ → Type 0) (plan : Plan) (link n : ℕ) (w : Run) (slots slots' : List Slot) (site : Site) (result : Result OutStep StepError) (t : Tower) (r : Result (Option Answer) Memory) → n ≡ link_of link → result ≢ Err NoMemory → OutSteps may slots slots' site.rank site.fac site.node n result w.tower t → IfOk r (λ says. says ≡ answer_told (out_told plan site.rank) step_told result) → IfOk r (λ says. CallsOut plan link (stage w slots) site says (stage (moved w t) slots'))
 calls_out may plan link n w slots slots' site result t (Err e) is memory does told = tt
 calls_out may plan link n w slots slots' site result t (Ok says) is memory does told = record { result = result; memory = memory; does = subst (λ (k : ℕ). OutSteps Anything slots slots' site.rank site.fac site.node k result w.tower t) is (any_place may slots slots' site.rank site.fac site.node n result w.tower t does); labels = refl; told = told }
+
+pub wants_out : (may : List ℕ → ℕ → List Head → ℕ → Type 0) (plan : Plan) (link n : ℕ) (w : Run) (slots slots' : List Slot) (site : Site) (step : OutStep) (t : Tower) (r : Result (Option Answer) Memory) → n ≡ link_of link → OutSteps may slots slots' site.rank site.fac site.node n (Ok step) w.tower t → OnErr r (copies_out plan site.rank step ≡ true) → OnErr r (WantsToLetOut plan link (stage w slots) (stage (moved w t) slots') site)
+wants_out may plan link n w slots slots' site step t (Ok says) is does copied = tt
+wants_out may plan link n w slots slots' site step t (Err e) is does copied = inr (step, subst (λ (k : ℕ). OutSteps Anything slots slots' site.rank site.fac site.node k (Ok step) w.tower t) is (any_place may slots slots' site.rank site.fac site.node n (Ok step) w.tower t does), copied)
 
 -- bytes for an IPC process
 pub calls_cdap : (bytes : List ℕ) (w : Run) (site : Site) (result : Result (List ℕ) CdapCallError) (t : Tower) (r : Result (Option Answer) Memory) → result ≢ Err calls.Memory → AsksAt site.rank site.fac site.node bytes result w.tower t → IfOk r (λ says. says ≡ answer_told (λ answer. Some (answers.Cdap answer)) cdap_told result) → IfOk r (λ says. CallsCdap bytes w site says (moved w t))

@@ -1,4 +1,6 @@
 pub mod Alive
+pub mod Allocating
+pub mod Asked
 pub mod Leading
 pub mod Reading
 pub mod Asking

@@ -10,7 +10,7 @@ use Rattle.rina_schedule.specs.Fields.{next_of}
 use Rattle.rina_schedule.specs.Line.{line_at}
 
 unfoldable pub is_built_word : List ℕ → Bool
-is_built_word word = bytes_eq word (codes "register") || bytes_eq word (codes "alloc") || bytes_eq word (codes "accept") || bytes_eq word (codes "send") || bytes_eq word (codes "read") || bytes_eq word (codes "tick") || bytes_eq word (codes "lose") || bytes_eq word (codes "repeat") || bytes_eq word (codes "hold") || bytes_eq word (codes "cut") || bytes_eq word (codes "mend") || bytes_eq word (codes "unregister") || bytes_eq word (codes "free") || bytes_eq word (codes "state") || bytes_eq word (codes "journal") || bytes_eq word (codes "retire") || bytes_eq word (codes "in") || bytes_eq word (codes "out") || bytes_eq word (codes "clock") || bytes_eq word (codes "round") || bytes_eq word (codes "ledger") || bytes_eq word (codes "rib") || bytes_eq word (codes "cdap")
+is_built_word word = bytes_eq word (codes "register") || bytes_eq word (codes "alloc") || bytes_eq word (codes "accept") || bytes_eq word (codes "send") || bytes_eq word (codes "read") || bytes_eq word (codes "tick") || bytes_eq word (codes "lose") || bytes_eq word (codes "repeat") || bytes_eq word (codes "hold") || bytes_eq word (codes "cut") || bytes_eq word (codes "mend") || bytes_eq word (codes "unregister") || bytes_eq word (codes "free") || bytes_eq word (codes "state") || bytes_eq word (codes "journal") || bytes_eq word (codes "retire") || bytes_eq word (codes "in") || bytes_eq word (codes "out") || bytes_eq word (codes "clock") || bytes_eq word (codes "round") || bytes_eq word (codes "ledger") || bytes_eq word (codes "rib") || bytes_eq word (codes "cdap") || bytes_eq word (codes "publish") || bytes_eq word (codes "member")
 
 abbrev pub is_built : Event → Bool
 is_built (events.Register fac node app) = true
@@ -36,6 +36,8 @@ is_built events.Round = true
 is_built (events.Ledger dif node) = true
 is_built (events.Rib dif node path) = true
 is_built (events.Cdap dif node bytes) = true
+is_built (events.Publish dif node fac) = true
+is_built (events.Member dif node) = true
 is_built _ = false
 
 -- the word is on a wire, or on an IPC process of a DIF
@@ -48,6 +50,8 @@ is_below (events.Mend wire) = true
 is_below (events.In dif node link) = true
 is_below (events.Clock dif node) = true
 is_below (events.Cdap dif node bytes) = true
+is_below (events.Publish dif node fac) = true
+is_below (events.Member dif node) = true
 is_below _ = false
 
 -- the word says one thing, and asks no policy
@@ -61,15 +65,20 @@ says_one (events.State label) = true
 says_one (events.Free label) = true
 says_one event = is_below event
 
--- the line is blank or a comment, or begins with a word that is built
-abbrev pub begins_built : Option (List ℕ × List ℕ) → Bool
-begins_built None = true
-begins_built (Some f) = (slice_index f.0 0 == 35) || is_built_word f.0
+-- the word of a line, by its first field and what stands behind it; none where it is blank or a comment
+abbrev pub word_of : Option (List ℕ × List ℕ) → Option (List ℕ)
+word_of None = None
+word_of (Some f) = if slice_index f.0 0 == 35 then None else Some f.0
 
 abbrev pub if_built : Option Event → Result (Option Event) LineError
 if_built None = Ok None
 if_built (Some event) = if is_built event then Ok (Some event) else Err errors.UnknownWord
 
--- what a line asks for, where its word is built
+-- what a line with this word asks for, where the word is built; a line without one asks for nothing
+abbrev pub event_by : Option (List ℕ) → List ℕ → Result (Option Event) LineError
+event_by None text = Ok None
+event_by (Some word) text = if is_built_word word then (line_at text >>= if_built) else Err errors.UnknownWord
+
+-- what a line asks for
 unfoldable pub event_at : List ℕ → Result (Option Event) LineError
-event_at text = if begins_built (next_of text) then (line_at text >>= if_built) else Err errors.UnknownWord
+event_at text = event_by (word_of (next_of text)) text

@@ -1,3 +1,4 @@
 pub mod Built
 pub mod Resting
 pub mod Step
+pub mod Wanting

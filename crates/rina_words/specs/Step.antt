@@ -1,7 +1,8 @@
 -- What each line of a schedule does to the tower, the labels and the shelf, and which notes it gives.
-use Rattle.std.specs.Prelude.{◌≡◌, ◌≢◌, ℕ, codes, ◌+◌, zero, suc, min, nat_lt, Bool, true, false, List, [], ◌∷◌, ◌++◌, map, Option, Some, None, Result, Ok, Err, option_and_then, option_map}
+use Rattle.std.specs.Prelude.{◌≡◌, ◌≢◌, ℕ, codes, ◌+◌, ◌==◌, zero, suc, min, nat_lt, Bool, true, false, List, [], ◌∷◌, ◌++◌, map, Option, Some, None, Result, Ok, Err, option_and_then, option_map, if◌then◌else◌}
 use Rattle.std.specs.List.{flat_map}
 use Rattle.rina_account.specs.declared.ledger.Off.{Off}
+use Rattle.rina_agent.specs.declared.state.MemberState.{MemberState}
 use Rattle.rina_base.specs.declared.number.Num.{Num}
 use Rattle.rina_base.specs.declared.number.Port.{Port}
 use Rattle.rina_cube.specs.declared.Want.{Want}
@@ -45,12 +46,16 @@ use Rattle.rina_stack.specs.Plan.{names_of}
 use Rattle.rina_stack.specs.Names.{place_in}
 use Rattle.rina_tower.specs.declared.applications.AppError.{AppError}
 use Rattle.rina_tower.specs.declared.applications.AppError.TheVariants as apps
+use Rattle.rina_tower.specs.declared.publish.PublishError.{PublishError}
+use Rattle.rina_tower.specs.declared.publish.PublishError.TheVariants as publish
 use Rattle.rina_tower.specs.declared.tower.Tower.{Tower}
 use Rattle.rina_tower.specs.Applications.{AppAllocates, AppClaims, AppFrees, AppPasses, AppRegisters, AppSends, AppUnregisters, is_ipc_at}
 use Rattle.rina_tower.specs.Cdap.{AsksAt}
 use Rattle.rina_tower.specs.Events.{Cuts, HoldsBack, Loses, Mends, Repeats}
 use Rattle.rina_tower.specs.Ledgers.{IsLedgerAt, member_at}
+use Rattle.rina_tower.specs.Members.{IsMemberState}
 use Rattle.rina_tower.specs.Objects.{ShowsUnderAt}
+use Rattle.rina_tower.specs.Publishing.{PublishesAt}
 use Rattle.rina_tower.specs.Ranks.{now_of, rank_of, seen_of}
 use Rattle.rina_tower.specs.Steps.{ClocksAt, InSteps, OutSteps}
 use Rattle.rina_tower.specs.Rounds.{Anything, IsRound}
@@ -64,7 +69,7 @@ use Rattle.rina_notes.specs.declared.label.Label.{Label}
 use Rattle.rina_notes.specs.declared.site.Site.{Site}
 use Rattle.rina_notes.specs.Sites.{dif_site_at, fac_named, label_in, port_in, site_at}
 use Rattle.rina_notes.specs.StepTold.{cdap_told, clock_told, in_told, object_told, off_told, out_told, step_told}
-use Rattle.rina_notes.specs.Told.{answer_told, app_told, register_told, unregister_told, free_told, allocate_told, send_told, wire_told, drawn_told, port_told, state_told}
+use Rattle.rina_notes.specs.Told.{answer_told, app_told, member_told, publish_told, register_told, unregister_told, free_told, allocate_told, send_told, wire_told, drawn_told, port_told, state_told}
 use Rattle.rina_notes.specs.Look.{ends_at, state_at, noted, state_notes, looked}
 
 -- ---- the shelf beside the run
@@ -488,6 +493,51 @@ pub record CallsCdap (bytes : List ℕ) (w : Run) (site : Site) (says : Option A
 abbrev pub Asking : Plan → List ℕ → List ℕ → List ℕ → Run → Option Answer → Run → Type 0
 Asking plan dif node bytes w says w' = AtSite (dif_site_at plan dif node) (CallsCdap bytes w) w says w'
 
+-- ---- publish DIF NODE FAC
+
+-- the number of a facility, where it is of the rank just below this one
+abbrev pub number_below : ℕ → Option RankedFac → Option ℕ
+number_below rank None = None
+number_below rank (Some f) = if rank == f.rank + 1 then Some f.fac else None
+
+-- a call at a facility of the rank just below; where the field names none, it is refused
+abbrev pub AtLower : ℕ → Option ℕ → (ℕ → Option Answer → Run → Type 0) → Run → Option Answer → Run → Type 0
+AtLower field None Call w says w' = IsRefused (refusals.Unknown field) w says w'
+AtLower field (Some fac) Call w says w' = Call fac says w'
+
+pub record CallsPublish (w : Run) (site : Site) (fac : ℕ) (says : Option Answer) (w' : Run) : Type 0 where
+  pub result : Result (Unit {0}) PublishError
+  pub memory : result ≢ Err (publish.Lower register.Memory)
+  pub does : PublishesAt site.rank site.fac site.node fac result w.tower w'.tower
+  pub labels : w'.labels ≡ w.labels
+  pub told : says ≡ answer_told (λ done. Some answers.Done) publish_told result
+
+abbrev pub Publishing : Plan → List ℕ → List ℕ → List ℕ → Run → Option Answer → Run → Type 0
+Publishing plan dif node fac w says w' =
+    AtSite (dif_site_at plan dif node) (λ site. AtLower 3 (number_below site.rank (fac_named plan fac)) (CallsPublish w site) w) w says w'
+
+-- ---- member DIF NODE
+
+-- the answer where the DIF has no member at that node, or the state of the one that it has there
+abbrev pub member_answer : Option MemberState → Option Answer
+member_answer None = Some (answers.Refused refusals.NoIpc)
+member_answer (Some state) = Some (answers.Member (member_told state))
+
+-- this is the state of the member at a node of a DIF of a rank, if it has one there
+abbrev pub IsStateOf : Tower → Site → Option MemberState → Type 0
+IsStateOf t site None = member_at t site.rank site.fac site.node ≡ None
+IsStateOf t site (Some state) = IsMemberState t site.rank site.fac site.node state
+
+-- the state of a member was told, and nothing changed
+pub record TellsMember (w : Run) (site : Site) (says : Option Answer) (w' : Run) : Type 0 where
+  pub state : Option MemberState
+  pub its : IsStateOf w.tower site state
+  pub told : says ≡ member_answer state
+  pub run : w' ≡ w
+
+abbrev pub TellingMember : Plan → List ℕ → List ℕ → Run → Option Answer → Run → Type 0
+TellingMember plan dif node w says w' = AtSite (dif_site_at plan dif node) (TellsMember w) w says w'
+
 -- ---- all words
 
 -- a word that says one thing
@@ -513,6 +563,8 @@ Answering plan (events.Mend wire) w says w' = Mending plan wire w says w'
 Answering plan (events.In dif node link) w says w' = TakingIn plan dif node link w says w'
 Answering plan (events.Clock dif node) w says w' = Clocking plan dif node w says w'
 Answering plan (events.Cdap dif node bytes) w says w' = Asking plan dif node bytes w says w'
+Answering plan (events.Publish dif node fac) w says w' = Publishing plan dif node fac w says w'
+Answering plan (events.Member dif node) w says w' = TellingMember plan dif node w says w'
 Answering plan event w says w' = ⊥
 
 -- what a word does to the run, and what it answers; words that are not built do nothing lawful

@@ -1,8 +1,8 @@
 //! Which words of a schedule are built. The others are words outside the grammar until they are.
-ghost use Rattle.std.specs.Prelude.{◌≡◌, true, IfOk, IfSome};
+ghost use Rattle.std.specs.Prelude.{◌≡◌, ◌≢◌, true, None, Ok, IfErr, IfOk, IfSome, option_map};
 ghost use Rattle.rina_schedule.specs.Gives.{Gives};
 ghost use Rattle.rina_schedule.specs.Fields.{next_of};
-ghost use Rattle.rina_words.specs.Built.{is_built_word, is_built, begins_built, event_at};
+ghost use Rattle.rina_words.specs.Built.{is_built_word, is_built, word_of, event_at};
 
 use rina_schedule::{Event, LineError, next_field, read_line};
 use std::alloc::Global;
@@ -34,6 +34,8 @@ fn word_is_built(word: &[u8]) -> bool
         || word == b"ledger".as_slice()
         || word == b"rib".as_slice()
         || word == b"cdap".as_slice()
+        || word == b"publish".as_slice()
+        || word == b"member".as_slice()
 }
 
 fn event_is_built(event: &Event) -> bool
@@ -64,26 +66,34 @@ fn event_is_built(event: &Event) -> bool
             | Event::Ledger { .. }
             | Event::Rib { .. }
             | Event::Cdap { .. }
+            | Event::Publish { .. }
+            | Event::Member { .. }
     )
 }
 
-fn line_begins_built(line: &[u8]) -> bool
-    ensures { result ≡ begins_built (next_of line.now) }
+/// The word of a line; None where it is blank or a comment.
+fn word_of(line: &[u8]) -> Option<&[u8]>
+    ensures { option_map (λ w. w.now) result ≡ word_of (next_of line.now) }
 {
-    match next_field(line) {
-        None => true,
-        Some((word, _)) => word.first() == Some(&b'#') || word_is_built(word),
+    let (word, _) = next_field(line)?;
+    if word.first() == Some(&b'#') {
+        return None;
     }
+    Some(word)
 }
 
 /// What a line of a schedule asks for; None where it is blank or a comment. Ok comes exactly where
-/// the line is in the grammar, as far as its words are built.
+/// the line is in the grammar, as far as its words are built. A line that asks for nothing takes no memory.
 #[tactic(auto, unfolding(crate::specs::Built::event_at))]
 pub fn read_event(alloc: Global, line: &[u8]) -> Result<Option<Event>, LineError>
     ensures read { Gives (λ e. e) result (event_at line.now) }
+    ensures memory { IfErr result (λ e. e ≡ LineError.Memory → event_at line.now ≢ Ok None) }
     ensures built { IfOk result (λ o. IfSome o (λ e. is_built e ≡ true)) }
 {
-    if !line_begins_built(line) {
+    let Some(word) = word_of(line) else {
+        return Ok(None);
+    };
+    if !word_is_built(word) {
         return Err(LineError::UnknownWord);
     }
     let Some(event) = read_line(alloc, line)? else {

@@ -1,8 +1,10 @@
 //! The word `cdap`.
-ghost use Rattle.std.specs.Prelude.{◌≡◌, IfOk};
+ghost use Rattle.std.specs.Prelude.{◌≡◌, IfOk, OnErr};
 ghost use Rattle.rina_stack.specs.Plan.{IsPlan};
 ghost use Rattle.rina_tower.specs.Stands.{IsTower};
 ghost use Rattle.rina_words.specs.Step.{Asking, CallsCdap};
+ghost use Rattle.rina_notes.specs.Sites.{dif_site_at};
+ghost use Rattle.rina_words.specs.Wanting.{HasFailed, WantsAt};
 
 use crate::run::Run;
 use rina_base::{Bytes, Memory, Name, Seq};
@@ -22,6 +24,7 @@ pub fn cdap(
     requires plan { IsPlan line.now.plan.now }
     requires tower { IsTower run.old.tower }
     ensures does { IfOk result (λ says. Asking line.now.plan.now dif.now node.now bytes.now run.old says run.new) }
+    ensures memory { OnErr result (WantsAt (dif_site_at line.now.plan.now dif.now node.now) (λ site. HasFailed run.new)) }
     ensures tower { IsTower run.new.tower }
 {
     let site = match find_dif_site(line.plan, dif, node) {
@@ -39,6 +42,7 @@ fn call_cdap(
 ) -> Result<Option<Answer>, Memory>
     requires { IsTower run.old.tower }
     ensures does { IfOk result (λ says. CallsCdap bytes.now run.old site says run.new) }
+    ensures memory { OnErr result (HasFailed run.new) }
     ensures tower { IsTower run.new.tower }
 {
     match run.tower.cdap(alloc, site.rank, site.fac, site.node, bytes) {

@@ -1,8 +1,10 @@
 //! The words on single steps of a DIF: each calls the tower, and says what it answered.
-ghost use Rattle.std.specs.Prelude.{◌≡◌, IfOk};
+ghost use Rattle.std.specs.Prelude.{◌≡◌, IfOk, OnErr};
 ghost use Rattle.rina_stack.specs.Plan.{IsPlan};
 ghost use Rattle.rina_tower.specs.Stands.{IsTower};
 ghost use Rattle.rina_words.specs.Step.{CallsClock, CallsIn, Clocking, TakingIn, link_of};
+ghost use Rattle.rina_notes.specs.Sites.{dif_site_at};
+ghost use Rattle.rina_words.specs.Wanting.{WantsAt, WantsToClock, WantsToTakeIn};
 
 use crate::run::Run;
 use rina_base::{Memory, Name};
@@ -28,6 +30,7 @@ pub fn in_step(
     requires plan { IsPlan line.now.plan.now }
     requires tower { IsTower run.old.tower }
     ensures does { IfOk result (λ says. TakingIn line.now.plan.now dif.now node.now link run.old says run.new) }
+    ensures memory { OnErr result (WantsAt (dif_site_at line.now.plan.now dif.now node.now) (WantsToTakeIn line.now.plan.now link run.old run.new)) }
     ensures tower { IsTower run.new.tower }
 {
     let site = match find_dif_site(line.plan, dif, node) {
@@ -40,6 +43,7 @@ pub fn in_step(
 fn call_in(line: &Line<'_>, run: &mut Run, site: Site, link: u32) -> Result<Option<Answer>, Memory>
     requires { IsTower run.old.tower }
     ensures does { IfOk result (λ says. CallsIn line.now.plan.now link run.old site says run.new) }
+    ensures memory { OnErr result (WantsToTakeIn line.now.plan.now link run.old run.new site) }
     ensures tower { IsTower run.new.tower }
 {
     let link = link_number(link);
@@ -63,6 +67,7 @@ pub fn clock(
     requires plan { IsPlan line.now.plan.now }
     requires tower { IsTower run.old.tower }
     ensures does { IfOk result (λ says. Clocking line.now.plan.now dif.now node.now run.old says run.new) }
+    ensures memory { OnErr result (WantsAt (dif_site_at line.now.plan.now dif.now node.now) (WantsToClock line.now.plan.now run.old run.new)) }
     ensures tower { IsTower run.new.tower }
 {
     let site = match find_dif_site(line.plan, dif, node) {
@@ -75,6 +80,7 @@ pub fn clock(
 fn call_clock(line: &Line<'_>, run: &mut Run, site: Site) -> Result<Option<Answer>, Memory>
     requires { IsTower run.old.tower }
     ensures does { IfOk result (λ says. CallsClock line.now.plan.now run.old site says run.new) }
+    ensures memory { OnErr result (WantsToClock line.now.plan.now run.old run.new site) }
     ensures tower { IsTower run.new.tower }
 {
     match run

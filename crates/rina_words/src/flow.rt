@@ -1,8 +1,13 @@
 //! The words on flows: each calls the tower, and says what it answered.
-ghost use Rattle.std.specs.Prelude.{◌≡◌, ◌∷◌, ◌++◌, [], option_map, IfOk, OnOk};
+ghost use Rattle.std.specs.Prelude.{◌≡◌, ◌∷◌, ◌++◌, [], None, Some, true, option_map, IfOk, OnErr, OnOk};
 ghost use Rattle.rina_words.specs.Step.{Registering, Allocating, Accepting, Sending, CallsRegister, CallsAllocate, CallsIncoming, CallsSend, port_answer, label_of, asked};
 ghost use Rattle.rina_stack.specs.Plan.{IsPlan};
 ghost use Rattle.rina_tower.specs.Stands.{IsTower};
+ghost use Rattle.rina_notes.specs.Copying.{copies_drawn};
+ghost use Rattle.rina_notes.specs.Look.{state_at};
+ghost use Rattle.rina_notes.specs.Sites.{label_in, port_in, site_at};
+ghost use Rattle.rina_tower.specs.Applications.{AppClaims};
+ghost use Rattle.rina_words.specs.Wanting.{HasFailed, WantsAt, WantsLabel, WantsOn, WantsToAccept, WantsToSend};
 
 use crate::run::Run;
 use rina_base::{AppName, Bytes, Memory, Name, Port};
@@ -26,7 +31,8 @@ pub fn say_port(
     port: Port,
 ) -> Result<Option<Answer>, Memory>
     requires { IsTower tower.now }
-    ensures { IfOk result (λ o. o ≡ port_answer plan.now tower.now rank port) }
+    ensures told { IfOk result (λ o. o ≡ port_answer plan.now tower.now rank port) }
+    ensures memory { OnErr result (copies_drawn plan.now rank (state_at tower.now rank port) ≡ true) }
 {
     match tell_drawn(alloc, plan, rank, state_at(tower, rank, port))? {
         Some(state) => Ok(Some(Answer::Port { state })),
@@ -45,6 +51,7 @@ pub fn register(
     requires plan { IsPlan line.now.plan.now }
     requires sound { IsTower run.old.tower }
     ensures does { IfOk result (λ says. Registering line.now.plan.now fac.now node.now app.now run.old says run.new) }
+    ensures memory { OnErr result (WantsAt (site_at line.now.plan.now 1 fac.now node.now) (λ site. HasFailed run.new)) }
     ensures sound { IsTower run.new.tower }
 {
     let site = match find_site(line.plan, 1, fac, node) {
@@ -62,6 +69,7 @@ fn call_register(
 ) -> Result<Option<Answer>, Memory>
     requires { IsTower run.old.tower }
     ensures does { IfOk result (λ says. CallsRegister app.now run.old site says run.new) }
+    ensures memory { OnErr result (HasFailed run.new) }
     ensures sound { IsTower run.new.tower }
 {
     match run
@@ -94,6 +102,7 @@ pub fn allocate(
     requires plan { IsPlan line.now.plan.now }
     requires sound { IsTower run.old.tower }
     ensures does { IfOk result (λ says. Allocating line.now.plan.now asks.now.label.now asks.now.fac.now asks.now.node.now asks.now.app.now asks.now.to.now asks.now.want run.old says run.new) }
+    ensures memory { OnErr result (WantsAt (site_at line.now.plan.now 2 asks.now.fac.now asks.now.node.now) (λ site. label_in run.old.labels asks.now.label.now ≡ None)) }
     ensures sound { IsTower run.new.tower }
 {
     let site = match find_site(line.plan, 2, asks.fac, asks.node) {
@@ -180,6 +189,7 @@ pub fn accept(
     requires plan { IsPlan line.now.plan.now }
     requires sound { IsTower run.old.tower }
     ensures does { IfOk result (λ says. Accepting line.now.plan.now label.now fac.now node.now app.now run.old says run.new) }
+    ensures memory { OnErr result (WantsAt (site_at line.now.plan.now 2 fac.now node.now) (λ site. WantsLabel label.now run.old (WantsToAccept app.now run.old run.new site))) }
     ensures sound { IsTower run.new.tower }
 {
     let site = match find_site(line.plan, 2, fac, node) {
@@ -201,6 +211,7 @@ fn call_incoming(
 ) -> Result<Option<Answer>, Memory>
     requires { IsTower run.old.tower }
     ensures does { IfOk result (λ says. CallsIncoming line.now.plan.now label.now app.now run.old site says run.new) }
+    ensures memory { OnErr result (WantsToAccept app.now run.old run.new site) }
     ensures sound { IsTower run.new.tower }
 {
     match run.tower.app_incoming(site.rank, site.fac, site.node, app) {
@@ -221,6 +232,7 @@ pub fn send(
 ) -> Result<Option<Answer>, Memory>
     requires { IsTower run.old.tower }
     ensures does { IfOk result (λ says. Sending line.now.plan.now label.now bytes.now run.old says run.new) }
+    ensures memory { OnErr result (WantsOn (port_in run.old.labels label.now) (WantsToSend line.now.plan.now bytes.now run.old run.new)) }
     ensures sound { IsTower run.new.tower }
 {
     let Some((rank, port)) = run.labels.port(label) else {
@@ -238,6 +250,7 @@ fn call_send(
 ) -> Result<Option<Answer>, Memory>
     requires { IsTower run.old.tower }
     ensures does { IfOk result (λ says. CallsSend line.now.plan.now bytes.now run.old rank port says run.new) }
+    ensures memory { OnErr result (WantsToSend line.now.plan.now bytes.now run.old run.new rank port) }
     ensures sound { IsTower run.new.tower }
 {
     match run.tower.app_send(line.alloc, rank, port, bytes.as_slice()) {

@@ -8,6 +8,7 @@ mod flow;
 mod journal;
 mod ledger;
 mod line;
+mod member;
 mod policy;
 mod read;
 mod release;

@@ -4,6 +4,7 @@ ghost use Rattle.rina_stack.specs.Plan.{IsPlan};
 ghost use Rattle.rina_tower.specs.Stands.{IsTower};
 ghost use Rattle.rina_tower.specs.Ranks.{now_of};
 ghost use Rattle.rina_words.specs.Built.{is_below, is_built, says_one};
+ghost use Rattle.rina_words.specs.Wanting.{Wants};
 ghost use Rattle.rina_notes.specs.Look.{Leads, Extends};
 ghost use Rattle.rina_words.specs.Step.{Acts, Answering, HasNames, Says, Steps, Ticking, Ticks, TicksOnce, rounds_after, stage};
 
@@ -12,6 +13,7 @@ use crate::dif::{clock, in_step};
 use crate::flow::{FlowRequest, accept, allocate, register, send};
 use crate::journal::journal;
 use crate::ledger::ledger;
+use crate::member::{member, publish};
 use crate::policy::retire;
 use crate::read::read;
 use crate::release::{free, state, unregister};
@@ -110,17 +112,20 @@ fn answer_below(line: &Line<'_>, run: &mut Run, event: &Event) -> Result<Option<
     requires below { is_below event.now ≡ true }
     requires sound { IsTower run.old.tower }
     ensures does { IfOk result (λ says. Answering line.now.plan.now event.now run.old says run.new) }
+    ensures memory { OnErr result (Wants line.now.plan.now event.now run.old run.new) }
     ensures sound { IsTower run.new.tower }
 {
     match event {
-        Event::Lose { wire, frame } => lose(line.plan, run, wire, *frame),
+        Event::Lose { wire, frame } => Ok(lose(line.plan, run, wire, *frame)),
         Event::Repeat { wire, frame, at } => repeat(line, run, wire, *frame, *at),
-        Event::Hold { wire, frame, at } => hold(line.plan, run, wire, *frame, *at),
-        Event::Cut { wire } => cut(line.plan, run, wire),
-        Event::Mend { wire } => mend(line.plan, run, wire),
+        Event::Hold { wire, frame, at } => Ok(hold(line.plan, run, wire, *frame, *at)),
+        Event::Cut { wire } => Ok(cut(line.plan, run, wire)),
+        Event::Mend { wire } => Ok(mend(line.plan, run, wire)),
         Event::In { dif, node, link } => in_step(line, run, dif, node, *link),
         Event::Clock { dif, node } => clock(line, run, dif, node),
         Event::Cdap { dif, node, bytes } => cdap(line, run, dif, node, bytes),
+        Event::Publish { dif, node, fac } => publish(line, run, dif, node, fac),
+        Event::Member { dif, node } => Ok(member(line.plan, run, dif, node)),
         _ => unreachable!(),
     }
 }
@@ -131,6 +136,7 @@ fn answer(line: &Line<'_>, run: &mut Run, event: &Event) -> Result<Option<Answer
     requires one { says_one event.now ≡ true }
     requires sound { IsTower run.old.tower }
     ensures does { IfOk result (λ says. Answering line.now.plan.now event.now run.old says run.new) }
+    ensures memory { OnErr result (Wants line.now.plan.now event.now run.old run.new) }
     ensures sound { IsTower run.new.tower }
 {
     match event {

@@ -1,5 +1,5 @@
 //! The word `read`.
-ghost use Rattle.std.specs.Prelude.{◌≡◌, None, MatchOption, OnOk, OnErr};
+ghost use Rattle.std.specs.Prelude.{◌≡◌, ◌≢◌, None, MatchOption, OnOk, OnErr};
 ghost use Rattle.rina_notes.specs.Look.{Leads, Extends};
 ghost use Rattle.rina_notes.specs.Sites.{port_in};
 ghost use Rattle.rina_words.specs.Step.{IsWaiting, Reading, ReadsAll, waiting};
@@ -53,7 +53,7 @@ pub fn read(
     read_all(alloc, run, line, rank, port, trace)
 }
 
-/// Reads all SDUs that wait at a port, each with a note.
+/// Reads all SDUs that wait at a port, each with a note. An allocation fails only where one waits still.
 fn read_all(
     alloc: Global,
     run: &mut Run,
@@ -64,10 +64,13 @@ fn read_all(
 ) -> Result<(), Memory>
     requires { IsTower run.old.tower }
     ensures does { OnOk result (ReadsAll line rank port run.old trace.old run.new trace.new) }
+    ensures waits { OnErr result (waiting run.new.tower rank port ≢ None) }
     ensures more { OnErr result (Extends trace.old trace.new) }
     ensures sound { IsTower run.new.tower }
 {
-    'entries: for _ in 0..u64::MAX {
+    // Each SDU has a note, and there are no more notes than can be counted.
+    let mut told = trace.len();
+    'entries: loop {
         let Some(lent) = oldest(&run.tower, rank, port) else {
             return Ok(());
         };
@@ -75,7 +78,6 @@ fn read_all(
         let got = Answer::Got { at: lent.at, bytes };
         tell(trace, line, tick_of(&run.tower), Some(got))?;
         run.tower.app_pass(rank, port);
+        told = trace.len();
     }
-    // So many notes fit into no memory.
-    Err(Memory)
 }

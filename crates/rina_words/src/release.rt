@@ -1,6 +1,10 @@
 //! The words that end something, and the one that tells a state.
-ghost use Rattle.std.specs.Prelude.{◌≡◌, IfOk};
+ghost use Rattle.std.specs.Prelude.{◌≡◌, true, IfOk, OnErr};
 ghost use Rattle.rina_words.specs.Step.{CallsFree, CallsUnregister, Freeing, Stating, Unregistering};
+ghost use Rattle.rina_notes.specs.Copying.{copies_drawn};
+ghost use Rattle.rina_notes.specs.Look.{state_at};
+ghost use Rattle.rina_notes.specs.Sites.{port_in, site_at};
+ghost use Rattle.rina_words.specs.Wanting.{HasFailed, WantsAt, WantsOn};
 ghost use Rattle.rina_stack.specs.Plan.{IsPlan};
 ghost use Rattle.rina_tower.specs.Stands.{IsTower};
 
@@ -24,6 +28,7 @@ pub fn unregister(
     requires plan { IsPlan line.now.plan.now }
     requires sound { IsTower run.old.tower }
     ensures does { IfOk result (λ says. Unregistering line.now.plan.now fac.now node.now app.now run.old says run.new) }
+    ensures memory { OnErr result (WantsAt (site_at line.now.plan.now 1 fac.now node.now) (λ site. HasFailed run.new)) }
     ensures sound { IsTower run.new.tower }
 {
     let site = match find_site(line.plan, 1, fac, node) {
@@ -41,6 +46,7 @@ fn call_unregister(
 ) -> Result<Option<Answer>, Memory>
     requires { IsTower run.old.tower }
     ensures does { IfOk result (λ says. CallsUnregister app.now run.old site says run.new) }
+    ensures memory { OnErr result (HasFailed run.new) }
     ensures sound { IsTower run.new.tower }
 {
     match run
@@ -57,6 +63,7 @@ fn call_unregister(
 pub fn free(alloc: Global, run: &mut Run, label: &Name) -> Result<Option<Answer>, Memory>
     requires { IsTower run.old.tower }
     ensures does { IfOk result (λ says. Freeing label.now run.old says run.new) }
+    ensures memory { OnErr result (WantsOn (port_in run.old.labels label.now) (λ rank port. HasFailed run.new)) }
     ensures sound { IsTower run.new.tower }
 {
     let Some((rank, port)) = run.labels.port(label) else {
@@ -68,6 +75,7 @@ pub fn free(alloc: Global, run: &mut Run, label: &Name) -> Result<Option<Answer>
 fn call_free(alloc: Global, run: &mut Run, rank: u16, port: Port) -> Result<Option<Answer>, Memory>
     requires { IsTower run.old.tower }
     ensures does { IfOk result (λ says. CallsFree run.old rank port says run.new) }
+    ensures memory { OnErr result (HasFailed run.new) }
     ensures sound { IsTower run.new.tower }
 {
     match run.tower.app_free(alloc, rank, port) {
@@ -80,7 +88,8 @@ fn call_free(alloc: Global, run: &mut Run, rank: u16, port: Port) -> Result<Opti
 /// The word `state`.
 pub fn state(line: &Line<'_>, run: &Run, label: &Name) -> Result<Option<Answer>, Memory>
     requires { IsTower run.now.tower }
-    ensures { IfOk result (λ says. Stating line.now.plan.now label.now run.now says run.now) }
+    ensures does { IfOk result (λ says. Stating line.now.plan.now label.now run.now says run.now) }
+    ensures memory { OnErr result (WantsOn (port_in run.now.labels label.now) (λ rank port. copies_drawn line.now.plan.now rank (state_at run.now.tower rank port) ≡ true)) }
 {
     let Some((rank, port)) = run.labels.port(label) else {
         return Ok(refused(Some(Refusal::Unknown { field: 1 })));

@@ -1,11 +1,12 @@
 //! The words whose steps ask the shelf: `out`, and `round`; and the round that follows a line by itself.
-ghost use Rattle.std.specs.Prelude.{◌≡◌, IfOk, OnOk};
+ghost use Rattle.std.specs.Prelude.{◌≡◌, IfOk, OnErr, OnOk};
 ghost use Rattle.rina_stack.specs.Plan.{IsPlan};
 ghost use Rattle.rina_tower.specs.Ranks.{now_of};
 ghost use Rattle.rina_tower.specs.Stands.{IsTower};
 ghost use Rattle.rina_notes.specs.Look.{Leads, Extends};
 ghost use Rattle.rina_notes.specs.Sites.{dif_site_at};
 ghost use Rattle.rina_words.specs.Step.{CallsOut, HasNames, LettingOut, RoundsBy, RoundsOnce, link_of, stage};
+ghost use Rattle.rina_words.specs.Wanting.{HasFailed, WantsAt, WantsToLetOut};
 
 use crate::dif::link_number;
 use crate::run::Run;
@@ -27,6 +28,7 @@ fn call_out<P: Retires>(
 ) -> Result<Option<Answer>, Memory>
     requires { IsTower run.old.tower }
     ensures does { IfOk result (λ says. CallsOut line.now.plan.now link (stage run.old (P.slots shelf.old)) site says (stage run.new (P.slots shelf.new))) }
+    ensures memory { OnErr result (WantsToLetOut line.now.plan.now link (stage run.old (P.slots shelf.old)) (stage run.new (P.slots shelf.new)) site) }
     ensures tower { IsTower run.new.tower }
     ensures names { HasNames (P.slots shelf.old) (P.slots shelf.new) }
 {
@@ -53,6 +55,7 @@ pub fn out_step<P: Retires>(
     requires plan { IsPlan line.now.plan.now }
     requires tower { IsTower run.old.tower }
     ensures does { IfOk result (λ says. LettingOut line.now.plan.now (dif_site_at line.now.plan.now dif.now node.now) link (stage run.old (P.slots shelf.old)) says (stage run.new (P.slots shelf.new))) }
+    ensures memory { OnErr result (WantsAt (dif_site_at line.now.plan.now dif.now node.now) (WantsToLetOut line.now.plan.now link (stage run.old (P.slots shelf.old)) (stage run.new (P.slots shelf.new)))) }
     ensures tower { IsTower run.new.tower }
     ensures names { HasNames (P.slots shelf.old) (P.slots shelf.new) }
 {

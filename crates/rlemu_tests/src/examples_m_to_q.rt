@@ -376,6 +376,53 @@ ledger d b
 8 12 off data 1.2.1 Behind 2
 end 12
 ====
+# A DIF that is not static. Its first member is enrolled and is published on the wire; the other one is outside, and no application has a place there.
+nodes = [\"a\", \"b\"]
+[[wire]]
+name = \"w\"
+ends = [\"a\", \"b\"]
+delay = 2
+life = 10
+largest = 1500
+[[dif]]
+name = \"d\"
+rank = 1
+pdu = 400
+widths = { addr = 1, cep = 1, len = 2, seq = 2 }
+queue = 64
+policy = \"strict\"
+wait = 500
+manage = { mpl = 40, r = 30, a = 2, retry = 10, window = 8 }
+cube = [ { id = 1, kind = \"datagram\", mpl = 40, window = 16, largest = 80 } ]
+member = [ { node = \"a\", addr = 1 }, { node = \"b\", addr = 2 } ]
+%%
+member d a
+member d b
+publish d a w
+publish d a w
+register d a echo
+rib d a /dir
+register d b echo
+rib d b
+----
+1 0 ok enrolled
+2 0 ok outside
+3 0 ok
+4 0 no Already
+5 0 ok
+6 0 obj /dir folder x
+6 0 obj /dir/echo value '1
+7 0 no NoMember
+8 0 obj / folder x
+8 0 obj /cube folder x
+8 0 obj /cube/1 cube 'datagram
+8 0 obj /dir folder x
+8 0 obj /flow folder x
+8 0 obj /link folder x
+8 0 obj /member folder x
+8 0 obj /user folder x
+end 0
+====
 # The policy `last` sends the PDU of the last cube first. It is retired then, and the first place is taken.
 nodes = [\"a\", \"b\"]
 rounds = \"manual\"

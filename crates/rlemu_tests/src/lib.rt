@@ -22,6 +22,8 @@ mod flat_rows;
 #[cfg(test)]
 mod kinds_rows;
 #[cfg(test)]
+mod member_rows;
+#[cfg(test)]
 mod own_policy;
 #[cfg(test)]
 mod running;

@@ -6,6 +6,7 @@ use crate::examples_m_to_q::EXAMPLES_M_TO_Q;
 use crate::examples_r_to_z::EXAMPLES_R_TO_Z;
 use crate::flat_rows::FLAT_ROWS;
 use crate::kinds_rows::KINDS_ROWS;
+use crate::member_rows::MEMBER_ROWS;
 use crate::spent_rows::SPENT_ROWS;
 use crate::storm_rows::STORM_ROWS;
 use crate::tall_rows::TALL_ROWS;
@@ -174,5 +175,11 @@ fn the_rows_of_spent_numbers_write_their_outputs(rt: HostRuntime) -> Result<(), 
 #[test]
 fn the_rows_of_ranks_write_their_outputs(rt: HostRuntime) -> Result<(), Fail> {
     assert_eq!(rt; other_of_all(rt.alloc(), TALL_ROWS)?, None);
+    Ok(())
+}
+
+#[test]
+fn the_rows_of_members_write_their_outputs(rt: HostRuntime) -> Result<(), Fail> {
+    assert_eq!(rt; other_of_all(rt.alloc(), MEMBER_ROWS)?, None);
     Ok(())
 }

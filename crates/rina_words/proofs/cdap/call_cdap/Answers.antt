@@ -10,5 +10,6 @@ returns-in-Ok-clause-does c = calls_cdap c.args.bytes.now c.args.run.now c.args.
 pub returns-in-Err : goal.returns-in-Err
 returns-in-Err c = record {
   does = calls_cdap c.args.bytes.now c.args.run.now c.args.site (Err c.in-Err.error) _ (Ok c.refused.result) (λ h. grind arith) (c.in-Err.ensures.does (alive _ c.in-Err.ensures.failed (λ h. grind arith))) (c.refused.ensures ∙ ap (option_map answers.Refused) c.tell_cdap.ensures);
+  memory = tt;
   tower = c.cdap.ensures.valid;
 }

@@ -12,5 +12,6 @@ returns-in-Err c = record {
     labels = refl;
     told = c.refused.ensures ∙ ap (option_map answers.Refused) c.tell_step.ensures;
   };
+  memory = tt;
   tower = c.clock_step.ensures.valid;
 }
