@@ -17,7 +17,7 @@ SHAPES = {
     },
     "storm": {"seed": ((0, 2**53 - 1), True), **{key: ((0, 1_000), True) for key in ("lose", "repeat")}, "spread": ((0, 100_000), True)},
     "dif": {
-        "name": ("name", True), "rank": ((1, 8), True), "static": ("yes", True), "pdu": ((18, 4_096), True), "widths": ("table", True),
+        "name": ("name", True), "rank": ((1, 8), True), "static": ("truth", False), "pdu": ((18, 4_096), True), "widths": ("table", True),
         "queue": ((1, 256), True), "policy": ("policy", True), "wait": ((1, 1_000_000), True), "manage": ("table", True), "cube": ("list", True),
         "member": ("list", True), "default": ("truth", False), "rule": ("list", False), "link": ("list", False), "flow": ("list", False),
     },
@@ -44,7 +44,7 @@ WITHIN = {
 }
 # What the value of a key has to be, in words.
 WANTED = {
-    "list": "a list", "table": "a table", "ends": "a list of two strings", "yes": "`true`: no other DIF runs yet", "truth": "`true` or `false`",
+    "list": "a list", "table": "a table", "ends": "a list of two strings", "truth": "`true` or `false`",
     "width": "a whole number",
 }
 
@@ -118,7 +118,7 @@ def fits(kind, value):
         return value in kind
     if kind == "ends":
         return isinstance(value, list) and len(value) == 2 and all(isinstance(it, str) for it in value)
-    return {"list": list, "table": dict, "yes": bool, "truth": bool, "width": int}.get(kind, str) is type(value) and (kind != "yes" or value)
+    return {"list": list, "table": dict, "truth": bool, "width": int}.get(kind, str) is type(value)
 
 
 def wanted(kind):
@@ -300,6 +300,20 @@ def rule_14(stack):
                 yield item, called, f"{largest} bytes need {-(-largest // piece)} pieces of {piece}, and `window` is {window}, `queue` {queue}"
 
 
+def is_static(dif):
+    return dif.get("static") is True
+
+
+def rule_15(stack):
+    for dif in stack.difs:
+        if not is_static(dif) and (rows(dif, "link") or rows(dif, "flow")):
+            yield stack.number_of(dif), "", "it has links or flows, and `static = true` is not there"
+    for item, dif, called, it in stack.each("link"):
+        below = stack.below(it)
+        if is_static(dif) and below in stack.difs and not is_static(below):
+            yield item, called, f"`{it['on']}` is not static"
+
+
 def rule_16(stack):
     on = {}
     for item, dif, called, it in stack.each("link"):
@@ -384,7 +398,7 @@ def rule_19(stack):
 
 RULES = {
     2: rule_2, 3: rule_3, 4: rule_4, 5: rule_5, 6: rule_6, 7: rule_7, 8: rule_8, 9: rule_9, 10: rule_10, 11: rule_11, 12: rule_12,
-    13: rule_13, 14: rule_14, 16: rule_16, 17: rule_17, 18: rule_18, 19: rule_19,
+    13: rule_13, 14: rule_14, 15: rule_15, 16: rule_16, 17: rule_17, 18: rule_18, 19: rule_19,
 }
 
 

@@ -1,8 +1,8 @@
 -- Whether a DIF may make a flow more.
-use Rattle.std.proofs.Common.{◌≡◌, ◌≢◌, ◌∙◌, ◌↔◌, ◌<◌, ℕ, length, Option, None, Some, IfSome, Bool, true, cond, ltb, option_map, sym, ap, subst}
+use Rattle.std.proofs.Common.{◌≡◌, ◌≢◌, ◌∙◌, ◌↔◌, ◌<◌, ℕ, length, Option, None, Some, IfSome, true, ltb, option_map, sym, ap, subst}
 use Rattle.std.specs.Prelude.{IsSome}
 use Rattle.std.proofs.lemmas.Bool.{false≢true, lt-ltb, ltb-true}
-use Rattle.std.proofs.lemmas.Option.{none-some, slice_get-map}
+use Rattle.std.proofs.lemmas.Option.{slice_get-map}
 use Rattle.rina_cube.specs.declared.Cube.{Cube}
 use Rattle.rina_data.specs.Configs.{cube_by, member_of}
 use Rattle.rina_data.proofs.Finding.{there}
@@ -10,7 +10,7 @@ use Rattle.rina_iface.specs.declared.ask.Fixed.{Fixed}
 use Rattle.rina_iface.specs.Ends.{drawn_at}
 use Rattle.rina_dif.specs.declared.dif.Dif.{Dif}
 use Rattle.rina_dif.specs.Binding.{MayBind, SomeDraws}
-use Rattle.rina_dif.specs.Elsewhere.{enrolled_home, home_of}
+use Rattle.rina_dif.specs.Elsewhere.{enrolled_home}
 use Rattle.rina_dif.proofs.Enrolled.{enrolled_home_is}
 
 -- an enrolled member stands at a node, and fewer ports were drawn there than it may have
@@ -22,10 +22,6 @@ room_from d node (Some k) n at within some count =
       λ less. (member_of m.0, record { place = k; at_home = parts.1; stands = slice_get-map member_of d.settings.members k ∙ ap (option_map member_of) m.1; enrolled = parts.0; room = subst (λ (x : ℕ). x < d.settings.admits) count (ltb-true n d.settings.admits less) }),
       λ may. lt-ltb n d.settings.admits (subst (λ (x : ℕ). x < d.settings.admits) (sym count) may.1.room),
     )
-
--- no port is drawn where none stands
-pub room_nowhere : (d : Dif) (node : ℕ) → enrolled_home d node ≡ None → SomeDraws d node → ⊥
-room_nowhere d node none may = none-some may.1.place (sym none ∙ ap (λ (b : Bool). cond b (home_of d node) None) may.1.enrolled ∙ may.1.at_home)
 
 -- so may both, for a cube that the DIF has
 pub may_from : (d : Dif) (fixed : Fixed) (cube : Cube) → d.settings.fac ≡ fixed.fac → fixed.a ≢ fixed.b → cube_by fixed.cube d.settings.cubes ≡ Some cube → SomeDraws d fixed.a → SomeDraws d fixed.b → MayBind d fixed

@@ -100,9 +100,6 @@ turn_started is_static cubes members plans rules allow at processes managements 
     let one : IsStarted is_static cubes members plans rules allow m p.links g = record { access = access; rules_are = rules_are; default_is = default_is; is = is ∙ ap (started is_static members plans access m) links_are; shows = shows } in
     subst (AreStarted is_static cubes members plans rules allow (at + 1) processes) (sym new) (next_started is_static cubes members plans rules allow at processes managements m p access g so here is_p one)
 
-pub all_started : (is_static : Bool) (cubes : List Cube) (members : List Kept) (plans : List LinkPlan) (rules : List Rule) (allow : Bool) (at : ℕ) (processes : List IpcProcess) (managements : List Management) → length members ≤ at → at ≤ length members → AreStarted is_static cubes members plans rules allow at processes managements → AreStarted is_static cubes members plans rules allow (length members) processes managements
-all_started is_static cubes members plans rules allow at processes managements le ge so = (let same : at ≡ length members = omega (arith, le, ge) in subst (λ (n : ℕ). AreStarted is_static cubes members plans rules allow n processes managements) same so)
-
 -- The members and links of a DIF
 
 apart_by : (f : Kept → ℕ) (ms : List Kept) → ((i k : ℕ) (a b : Kept) → slice_get ms i ≡ Some a → slice_get ms k ≡ Some b → f a ≡ f b → i ≡ k) → AreApart (map f ms)

@@ -1,6 +1,5 @@
 -- What it is to publish an IPC process: it is registered as an application at the rank below its own.
 use Rattle.std.specs.Prelude.{◌≡◌, ℕ, ◌==◌, List, find, slice_get, Option, Some, None, option_and_then, option_map, Result, Ok, Err}
-use Rattle.rina_iface.specs.declared.error.RegisterError.{RegisterError}
 use Rattle.rina_data.specs.declared.settings.Member.{Member}
 use Rattle.rina_dif.specs.declared.dif.Dif.{Dif}
 use Rattle.rina_tower.specs.declared.publish.PublishError.{PublishError}

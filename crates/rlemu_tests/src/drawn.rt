@@ -1,4 +1,4 @@
-//! The inputs that are drawn from numbers are taken: the stack runs, each line of the schedule is read, and each run is done.
+//! The inputs that are drawn from numbers are taken: the stack is read, each line of the schedule is read, and each run is done.
 use crate::running::ended_of;
 use bstr::ByteSlice;
 use rina_gen::make;

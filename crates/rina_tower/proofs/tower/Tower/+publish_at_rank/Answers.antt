@@ -1,4 +1,4 @@
-use Rattle.std.proofs.Common.{◌≡◌, ◌+◌, ◌∙◌, ℕ, ap, inl, refl}
+use Rattle.std.proofs.Common.{◌+◌, ◌∙◌, ℕ, ap, inl, refl}
 use Rattle.rina_tower.specs.Bystanders.{Anyone}
 use Rattle.rina_tower.proofs.Alone.{all_alone}
 use Rattle.rina_tower.proofs.Serving.{beside_alone, rank_quiet, same_height}

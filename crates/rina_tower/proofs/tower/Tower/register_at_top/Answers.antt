@@ -1,11 +1,10 @@
-use Rattle.std.proofs.Common.{◌≡◌, Err, Some, refl}
+use Rattle.std.proofs.Common.{◌≡◌, Err, refl}
 use Rattle.rina_iface.proofs.LaterCalls.{later_registers}
 use Rattle.rina_tower.specs.Ranks.{now_of, seen_of_difs}
 use Rattle.rina_tower.proofs.Failed.{rank_failed, wires_failed}
 use Rattle.rina_tower.proofs.Serving.{rank_registers, registers_seen}
 use Rattle.rina_tower.specs.Refusals.{own_register}
 use Rattle.rina_iface.specs.declared.error.RegisterError.TheVariants.{NoMember}
-use Rattle.rina_iface.specs.Register.{Registers}
 use Rattle.rina_iface.specs.declared.error.RegisterError.TheVariants as register
 use Rattle.rina_wire.specs.Register.{RegistersOn}
 use Rattle.rina_tower.proofs.Staying.{any_stays, serves_stays}

@@ -1,11 +1,10 @@
-use Rattle.std.proofs.Common.{◌≡◌, Err, Some, refl}
+use Rattle.std.proofs.Common.{◌≡◌, Err, refl}
 use Rattle.rina_iface.proofs.LaterCalls.{later_unregisters}
 use Rattle.rina_tower.specs.Ranks.{now_of, seen_of_difs}
 use Rattle.rina_tower.proofs.Failed.{rank_failed, wires_failed}
 use Rattle.rina_tower.proofs.Serving.{rank_unregisters, unregisters_seen}
 use Rattle.rina_tower.specs.Refusals.{own_unregister}
 use Rattle.rina_iface.specs.declared.error.UnregisterError.TheVariants.{NotThere}
-use Rattle.rina_iface.specs.Unregister.{Unregisters}
 use Rattle.rina_iface.specs.declared.error.UnregisterError.TheVariants as unregister
 use Rattle.rina_wire.specs.Unregister.{UnregistersOn}
 use Rattle.rina_tower.proofs.Staying.{any_stays, serves_stays}
