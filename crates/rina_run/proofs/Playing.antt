@@ -96,7 +96,7 @@ asks_event : (line : List ℕ) (event : Event) → event_at line ≡ Ok (Some ev
 asks_event line event is = λ none. (let same : Ok (Some event) ≡ Ok None = sym is ∙ none in cc)
 
 -- what a line asks for stopped
-pub stopped_line : (plan : Plan) (number : ℕ) (line : List ℕ) (event : Event) (s s' : Stage) (old new : List Note) (e : Stop) → event_at line ≡ Ok (Some event) → Ran {Unit {0}} (λ ns. Steps plan number event s ns s') old new (Err e) → LineRan plan number line s old s' new (Err e)
+pub stopped_line : (plan : Plan) (number : ℕ) (line : List ℕ) (event : Event) (s s' : Stage) (old new : List Note) (e : Stop) → event_at line ≡ Ok (Some event) → Ran {A = Unit {0}} (λ ns. Steps plan number event s ns s') old new (Err e) → LineRan plan number line s old s' new (Err e)
 stopped_line plan number line event s s' old new stops.Memory is ran = (asks_event line event is, rw is ran)
 stopped_line plan number line event s s' old new stops.WriteFault is ran = rw is ran
 

@@ -27,7 +27,7 @@ returns-in-Ok-Err-clause-reads g c =
     let goes = rw c.in-Ok-Line.field-0-is at c.in-Ok-Line.ensures.goes_on in
     let text_is = c.without_end.ensures ∙ ap without_terminator c.as_slice.ensures.value in
     let read = one_so_far _ _ _ _ _ _ so_far.lines line so_far.read (λ left before h. rw c.in-Ok-Line.field-0-is at (c.in-Ok-Line.ensures.reads left before h)) goes.0 in
-    enough_behind _ _ _ _ _ _ read (λ ending fine. (fine, first_bad so_far.lines line _ _ _ so_far.number text_is so_far.are (rw c.in-Ok-Err.field-0-is at c.in-Ok-Err.ensures)))
+    enough_behind _ _ _ _ _ _ read (λ ending fine. (fine, first_bad so_far.lines line _ _ _ so_far.number text_is so_far.are (rw c.in-Ok-Err.field-0-is at c.in-Ok-Err.ensures.read)))
 
 pub lines-preserved : goal.lines-preserved
 lines-preserved g c =
@@ -38,7 +38,7 @@ lines-preserved g c =
     let text_is = c.without_end.ensures ∙ ap without_terminator c.as_slice.ensures.value in
     let read = one_so_far _ _ _ _ _ _ so_far.lines line so_far.read (λ left before h. rw c.in-Ok-Line.field-0-is at (c.in-Ok-Line.ensures.reads left before h)) goes.0 in
     let counted : c.lines.events + c.from-events.result ≡ c.lines.events + cond c.in-Ok-Ok.holds 1 0 = ap (λ n. c.lines.events + n) (c.from-events.ensures ∙ bool_as c.in-Ok-Ok.holds) in
-    let on = checked_on _ _ _ _ _ _ line _ c.in-Ok-Ok.holds c.lines.number c.lines.events (c.lines.events + c.from-events.result) so_far read text_is (rw c.in-Ok-Ok.field-0-is at c.in-Ok-Ok.ensures) counted in
+    let on = checked_on _ _ _ _ _ _ line _ c.in-Ok-Ok.holds c.lines.number c.lines.events (c.lines.events + c.from-events.result) so_far read text_is (rw c.in-Ok-Ok.field-0-is at c.in-Ok-Ok.ensures.read) counted in
     record {
       so_far = on;
       reader = goes.1.sound;
