@@ -1,7 +1,6 @@
 -- To publish an IPC process is to register it at some rank of the tower, or to do nothing.
 use Rattle.std.proofs.Common.{◌≡◌, ◌≢◌, ◌⊎◌, ℕ, ◌+◌, ◌≤◌, List, Option, Some, None, Result, Ok, Err, inl, inr, refl, ap, arith}
 use Rattle.rina_iface.specs.declared.error.RegisterError.{RegisterError}
-use Rattle.rina_dif.specs.declared.dif.Dif.{Dif}
 use Rattle.rina_wire.specs.Air.{Air}
 use Rattle.rina_tower.specs.declared.publish.PublishError.{PublishError}
 use Rattle.rina_tower.specs.declared.publish.PublishError.TheVariants.{NoIpc, Lower}

@@ -12,10 +12,8 @@ use Rattle.rina_iface.specs.declared.error.AllocateError.{AllocateError}
 use Rattle.rina_iface.specs.declared.error.AllocateError.TheVariants as allocate
 use Rattle.rina_iface.specs.declared.error.FreeError.{FreeError}
 use Rattle.rina_iface.specs.declared.error.RegisterError.{RegisterError}
-use Rattle.rina_iface.specs.declared.error.RegisterError.TheVariants as register
 use Rattle.rina_iface.specs.declared.error.SendError.{SendError}
 use Rattle.rina_iface.specs.declared.error.UnregisterError.{UnregisterError}
-use Rattle.rina_iface.specs.declared.error.UnregisterError.TheVariants as unregister
 use Rattle.rina_iface.specs.Ends.{place_in}
 use Rattle.rina_iface.specs.Seen.{Seen, unpassed}
 use Rattle.rina_law.specs.Direction.{Direction}

@@ -1,5 +1,5 @@
 -- Where a word that says one thing may want memory: where it copies names, and where a call of the tower does.
-use Rattle.std.specs.Prelude.{◌≡◌, ◌≢◌, ℕ, ◌⊎◌, Bool, true, List, Option, Some, None, IsSome, Result, Ok, Err}
+use Rattle.std.specs.Prelude.{◌≡◌, ℕ, ◌⊎◌, Bool, true, List, Option, Some, None, IsSome, Result, Ok, Err}
 use Rattle.rina_base.specs.declared.number.Port.{Port}
 use Rattle.rina_data.specs.declared.step.ClockStep.{ClockStep}
 use Rattle.rina_data.specs.declared.step.InStep.{InStep}
@@ -9,7 +9,6 @@ use Rattle.rina_schedule.specs.declared.event.Event.{Event}
 use Rattle.rina_schedule.specs.declared.event.Event.TheVariants as events
 use Rattle.rina_stack.specs.declared.plan.Plan.{Plan}
 use Rattle.rina_tower.specs.declared.applications.AppError.{AppError}
-use Rattle.rina_tower.specs.declared.tower.Tower.{Tower}
 use Rattle.rina_tower.specs.Applications.{AppClaims, AppSends}
 use Rattle.rina_tower.specs.MemoryFailure.{has_failed}
 use Rattle.rina_tower.specs.Rounds.{Anything}

@@ -1,5 +1,5 @@
 use Rattle.std.proofs.Common.{◌≡◌, ◌∙◌, false, sym, ap}
-use Rattle.rina_notes.specs.Look.{label_notes, same_drawn, state_at}
+use Rattle.rina_notes.specs.Look.{same_drawn, state_at}
 use Rattle.rina_notes.proofs.Looking.{has_note, on_err}
 use Rattle.rina_notes.proofs.label_note.tell_label.Goals as goal
 

@@ -1,4 +1,4 @@
-use Rattle.std.proofs.Common.{◌≡◌, ◌<◌, arith, length}
+use Rattle.std.proofs.Common.{◌<◌, arith, length}
 use Rattle.rina_notes.proofs.Looking.{on_err, some_note, told_size}
 use Rattle.rina_notes.proofs.label_note.tell_labels.Goals as goal
 
