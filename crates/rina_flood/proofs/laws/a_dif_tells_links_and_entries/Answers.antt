@@ -1,5 +1,5 @@
 use Rattle.rina_flood.proofs.Entries.{entries_are_one, static_rows}
-use Rattle.rina_flood.proofs.laws.a_static_dif_tells_links_and_entries.Goals as goal
+use Rattle.rina_flood.proofs.laws.a_dif_tells_links_and_entries.Goals as goal
 
 pub returns-clause-links : goal.returns-clause-links
 returns-clause-links c = static_rows
