@@ -65,7 +65,7 @@ took_at n link side x i few =
     let a = n.agents (n.ends link (other side)) in
     at_place (λ a c. IsFew a → IsFew c) (n.ends link (other side)) _ n.agents i (took_few (is_newer x.version (kept_at a.items x.key)) a (n.numbers link (other side)) x (taken a.items x)) (λ c e. e) few
 
-near_few : (n : Network) (link : ℕ) (side : Side) (m : LinkMessage) (rest : List ManagementMessage) (i : ℕ) → is_plain (ToNeighbour m) ≡ true → IsFew (n.agents i) → IsFew ((happens n (Handle link side (ToNeighbour m) rest)).agents i)
+near_few : (n : Network) (link : ℕ) (side : Side) (m : LinkMessage) (rest : List ManagementMessage) (i : ℕ) → is_plain (ToNeighbour m) ≡ true → IsFew (n.agents i) → IsFew ((happens n (Handle link side number (ToNeighbour m) rest)).agents i)
 near_few n link side (messages.Connect invoke joiner member) rest i plain few = absurd (both_ways true (sym plain) refl)
 near_few n link side (messages.ConnectR invoke denied) rest i plain few = absurd (both_ways true (sym plain) refl)
 near_few n link side (messages.Start invoke address) rest i plain few = absurd (both_ways true (sym plain) refl)
@@ -79,17 +79,17 @@ row_few : (n : Network) (row : Row) (i : ℕ) → ArePlain n → May n row → I
 row_few n (Make j key value) i plain may of few =
     let a = n.agents j in
     at_place (λ a c. IsFew a → IsFew c) j _ n.agents i (made_few (spent 1 a.last_count) a n.now key value) (λ c e. e) few
-row_few n (Put link side m) i plain may of few = at_place (λ a c. IsFew a → IsFew c) (n.ends link side) _ n.agents i (λ e. e) (λ a e. e) few
-row_few n (Take link side m) i plain may of few = at_place (λ a c. IsFew a → IsFew c) (n.ends link side) _ n.agents i (λ e. e) (λ a e. e) few
-row_few n (Handle link side (ToNeighbour m) rest) i plain may of few = near_few n link side m rest i (first_plain n link side (ToNeighbour m) rest plain may) few
-row_few n (Handle link side (ToMember m) rest) i plain may of few = few
-row_few n (Lose link side) i plain may of few =
+row_few n (Put link side number m) i plain may of few = at_place (λ a c. IsFew a → IsFew c) (n.ends link side) _ n.agents i (λ e. e) (λ a e. e) few
+row_few n (Take link side number m) i plain may of few = at_place (λ a c. IsFew a → IsFew c) (n.ends link side) _ n.agents i (λ e. e) (λ a e. e) few
+row_few n (Handle link side number (ToNeighbour m) rest) i plain may of few = near_few n link side m rest i (first_plain n link side (ToNeighbour m) rest plain may) few
+row_few n (Handle link side number (ToMember m) rest) i plain may of few = few
+row_few n (Lose link side number) i plain may of few =
     let a = n.agents (n.ends link side) in
     let k = n.numbers link side in
     at_place (λ a c. IsFew a → IsFew c) (n.ends link side) _ n.agents i (lost_few (was_up (find (is_numbered k) a.links)) (spent 1 a.last_count) a n.now k) (λ c e. e) few
 row_few n (Drop link side left) i plain may of few = few
-row_few n (Enrol link side member node) i plain may of few = absurd of
-row_few n (Claim link side) i plain may of few = absurd of
+row_few n (Enrol link side number one two member node) i plain may of few = absurd of
+row_few n (Claim link side number) i plain may of few = absurd of
 row_few n (Know x) i plain may of few = (let same = knower_count (is_enrolled (n.agents i)) x (n.agents i) in omega (arith, few, same))
 row_few n Pass i plain may of few = few
 
@@ -113,14 +113,14 @@ row_near n (Make j key value) x h plain may of old e = elim (Contains-push_cases
       let fits = of.1 in
       omega (arith, same, fits))
 ]
-row_near n (Put link side m) x h plain may of old e = old e
-row_near n (Take link side m) x h plain may of old e = old (none_more n.made x e)
-row_near n (Handle link side (ToNeighbour m) rest) x h plain may of old e = old (near_made n link side m rest x (first_plain n link side (ToNeighbour m) rest plain may) e)
-row_near n (Handle link side (ToMember m) rest) x h plain may of old e = old e
-row_near n (Lose link side) x h plain may of old e = lost_near n link side (was_up (find (is_numbered (n.numbers link side)) (n.agents (n.ends link side)).links)) x h old e
+row_near n (Put link side number m) x h plain may of old e = old e
+row_near n (Take link side number m) x h plain may of old e = old (none_more n.made x e)
+row_near n (Handle link side number (ToNeighbour m) rest) x h plain may of old e = old (near_made n link side m rest x (first_plain n link side (ToNeighbour m) rest plain may) e)
+row_near n (Handle link side number (ToMember m) rest) x h plain may of old e = old e
+row_near n (Lose link side number) x h plain may of old e = lost_near n link side (was_up (link_at (n.states link side) (n.agents (n.ends link side)).links)) x h old e
 row_near n (Drop link side left) x h plain may of old e = old e
-row_near n (Enrol link side member node) x h plain may of old e = absurd of
-row_near n (Claim link side) x h plain may of old e = absurd of
+row_near n (Enrol link side number one two member node) x h plain may of old e = absurd of
+row_near n (Claim link side number) x h plain may of old e = absurd of
 row_near n (Know y) x h plain may of old e = elim (Contains-push_cases n.made y x e) [
   | inl was ↦ old was
   | inr is ↦ (let same : x.version.origin ≡ of.1 = ap (λ (z : Item). z.version.origin) (sym is ∙ of.2) in let fits = of.3 in omega (arith, same, fits))
@@ -175,9 +175,9 @@ module _ (is_static : Bool) (n : Network) (members : List Member) (plans : List 
   near_fits l d (messages.Flood x) early plain e = version_fits l d x early (flat_in carried (unhandled end l d) (ToNeighbour (messages.Flood x)) x e (in_first x []))
 
   -- a message that waits for a link
-  pub waiting_fits : (l : ℕ) (d : Side) (m : LinkMessage) → end.now < 2 ^ 32 → Contains (waiting_on (end.numbers l d) (end.agents (end.ends l d)).agenda) (ToNeighbour m) → IsInRange m
+  pub waiting_fits : (l : ℕ) (d : Side) (m : LinkMessage) → end.now < 2 ^ 32 → Contains (waiting_at (end.states l d) (end.agents (end.ends l d)).agenda) (ToNeighbour m) → IsInRange m
   waiting_fits l d m early e =
-      let waits = Contains-append_right (end.sent l d) (waiting_on (end.numbers l d) (end.agents (end.ends l d)).agenda) (ToNeighbour m) e in
+      let waits = Contains-append_right (end.sent l d) (waiting_at (end.states l d) (end.agents (end.ends l d)).agenda) (ToNeighbour m) e in
       let static = static_rows rows of in
       let plain = rows_plain n rows (begin_holds n (start_items is_static members plans) s) (start_plain n (start_items is_static members plans) s) run static.0 in
       near_fits l d m early (plain l d (ToNeighbour m) waits) waits

@@ -36,25 +36,25 @@ use Rattle.rina_member.proofs.Starting.{start_of}
 
 pub makes_no_link : (row : Row) → IsOfStatic row → MakesNoLink row
 makes_no_link (Make i key value) of = tt
-makes_no_link (Put link side m) of = tt
-makes_no_link (Take link side m) of = tt
-makes_no_link (Handle link side m rest) of = tt
-makes_no_link (Lose link side) of = tt
+makes_no_link (Put link side number m) of = tt
+makes_no_link (Take link side number m) of = tt
+makes_no_link (Handle link side number m rest) of = tt
+makes_no_link (Lose link side number) of = tt
 makes_no_link (Drop link side left) of = tt
-makes_no_link (Enrol link side member node) of = of
-makes_no_link (Claim link side) of = of
+makes_no_link (Enrol link side number one two member node) of = of
+makes_no_link (Claim link side number) of = of
 makes_no_link (Know x) of = tt
 makes_no_link Pass of = tt
 
 leaves : (address : ℕ) (row : Row) → IsOfStatic row → LeavesLinkState address row
 leaves address (Make i key value) of = λ e. entry_not_link of.0.0 address (sym of.0.1 ∙ e)
-leaves address (Put link side m) of = tt
-leaves address (Take link side m) of = tt
-leaves address (Handle link side m rest) of = tt
-leaves address (Lose link side) of = tt
+leaves address (Put link side number m) of = tt
+leaves address (Take link side number m) of = tt
+leaves address (Handle link side number m rest) of = tt
+leaves address (Lose link side number) of = tt
 leaves address (Drop link side left) of = tt
-leaves address (Enrol link side member node) of = tt
-leaves address (Claim link side) of = tt
+leaves address (Enrol link side number one two member node) of = tt
+leaves address (Claim link side number) of = tt
 leaves address (Know x) of = λ e. entry_not_link of.0 address (sym (ap (λ (y : Item). y.key) of.2) ∙ e)
 leaves address Pass of = tt
 
@@ -82,7 +82,7 @@ IsKnown x = IsFirstEntry x ⊎ (IsMadeEntry x ⊎ ((address : ℕ) × ((x.key �
 pub none_more : (made : List Item) (x : Item) → Contains (made ++ []) x → Contains made x
 none_more made x e = (let P : List Item → Type 0 = λ items. Contains items x in subst P (append-nil made) e)
 
-pub near_made : (n : Network) (link : ℕ) (side : Side) (m : LinkMessage) (rest : List ManagementMessage) (x : Item) → is_plain (ToNeighbour m) ≡ true → Contains (happens n (Handle link side (ToNeighbour m) rest)).made x → Contains n.made x
+pub near_made : (n : Network) (link : ℕ) (side : Side) (m : LinkMessage) (rest : List ManagementMessage) (x : Item) → is_plain (ToNeighbour m) ≡ true → Contains (happens n (Handle link side number (ToNeighbour m) rest)).made x → Contains n.made x
 near_made n link side (messages.Connect invoke joiner member) rest x plain e = absurd (both_ways true (sym plain) refl)
 near_made n link side (messages.ConnectR invoke denied) rest x plain e = absurd (both_ways true (sym plain) refl)
 near_made n link side (messages.Start invoke address) rest x plain e = absurd (both_ways true (sym plain) refl)
@@ -110,14 +110,14 @@ row_made n (Make i key value) x plain may of e = elim (Contains-push_cases n.mad
   | inl old ↦ inl old
   | inr is ↦ inr (inr (inl ((of.0.0, sym (ap (λ (y : Item). y.key) is) ∙ of.0.1), subst (λ (c : ℕ). 1 ≤ c) (ap (λ (y : Item). y.version.count) is) (next_some (n.agents i).last_count))))
 ]
-row_made n (Put link side m) x plain may of e = inl e
-row_made n (Take link side m) x plain may of e = inl (none_more n.made x e)
-row_made n (Handle link side (ToNeighbour m) rest) x plain may of e = inl (near_made n link side m rest x (first_plain n link side (ToNeighbour m) rest plain may) e)
-row_made n (Handle link side (ToMember m) rest) x plain may of e = inl e
-row_made n (Lose link side) x plain may of e = lost_made n (n.ends link side) (n.numbers link side) (was_up (find (is_numbered (n.numbers link side)) (n.agents (n.ends link side)).links)) x e
+row_made n (Put link side number m) x plain may of e = inl e
+row_made n (Take link side number m) x plain may of e = inl (none_more n.made x e)
+row_made n (Handle link side number (ToNeighbour m) rest) x plain may of e = inl (near_made n link side m rest x (first_plain n link side (ToNeighbour m) rest plain may) e)
+row_made n (Handle link side number (ToMember m) rest) x plain may of e = inl e
+row_made n (Lose link side number) x plain may of e = lost_made n (n.ends link side) (n.numbers link side) (was_up (link_at (n.states link side) (n.agents (n.ends link side)).links)) x e
 row_made n (Drop link side left) x plain may of e = inl e
-row_made n (Enrol link side member node) x plain may of e = absurd of
-row_made n (Claim link side) x plain may of e = absurd of
+row_made n (Enrol link side number one two member node) x plain may of e = absurd of
+row_made n (Claim link side number) x plain may of e = absurd of
 row_made n (Know y) x plain may of e = elim (Contains-push_cases n.made y x e) [
   | inl old ↦ inl old
   | inr is ↦ inr (inl (of.0, of.1, sym is ∙ of.2, of.3))

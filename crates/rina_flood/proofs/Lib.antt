@@ -12,6 +12,7 @@ pub mod Gap
 pub mod Heard
 pub mod Holds
 pub mod Journals
+pub mod Keeping
 pub mod Known
 pub mod LinkStates
 pub mod Members
@@ -25,6 +26,7 @@ pub mod Rows
 pub mod Runs
 pub mod Sample
 pub mod Settles
+pub mod States
 pub mod Static
 pub mod Stating
 pub mod Steps

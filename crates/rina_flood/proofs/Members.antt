@@ -290,8 +290,8 @@ offers_run is_static plans old new r h =
     ∙ ap (λ (c : Agent). first_on h.end.number c.agenda) at.4
     ∙ h.first
     ∙ ap (λ (k : ℕ). Some (record { link = k; message = message })) (sym at.3) in
-    let among : Contains (waiting_on (n.numbers l d) (n.agents (n.ends l d)).agenda) message = (let W : List ManagementMessage → Type 0 = λ ms. Contains ms message in
-    subst W (sym (first_waits (n.numbers l d) (n.agents (n.ends l d)).agenda (record { link = n.numbers l d; message = message }) may)) (in_first message (waiting_on (n.numbers l d) (without_first (n.numbers l d) (n.agents (n.ends l d)).agenda)))) in
+    let among : Contains (waiting_at (n.states l d) (n.agents (n.ends l d)).agenda) message = (let W : List ManagementMessage → Type 0 = λ ms. Contains ms message in
+    subst W (sym (first_waits (n.numbers l d) (n.agents (n.ends l d)).agenda (record { link = n.numbers l d; message = message }) may)) (in_first message (waiting_at (n.states l d) (without_first (n.numbers l d) (n.agents (n.ends l d)).agenda)))) in
     let early : n.now < 2 ^ 32 = (let now = r.is.now in let small = h.early in omega (arith, now, small)) in
     let fits = waiting_fits is_static r.start old.members plans r.rows r.laid_out r.starts r.run r.static r.fresh l d h.message early among in
     let short : AreShortTexts new.sent = offered_short (end_place l d) h.text old.sent new.sent h.sent (record { message = h.message; in_range = fits; spelled = h.written; short = h.short }) r.short in
@@ -383,7 +383,7 @@ module _ (is_static : Bool) (plans : List LinkPlan) (old new : MembersSeen) (r :
 
   linked_enrolled : (l : ℕ) (d : Side) → has_link before l d ≡ true → is_enrolled (before.agents (before.ends l d)) ≡ true
   linked_enrolled l d has = elim (by_place (before.ends l d) (place_at old.members (before.ends l d)) refl) [
-    | inl none ↦ absurd (both_ways true (sym has ∙ ap (λ (ls : List Link). is_some (find (is_numbered (before.numbers l d)) ls)) none) refl)
+    | inl none ↦ absurd (both_ways true (sym has ∙ ap (λ (ls : List Link). is_some (link_at (before.states l d) ls)) none) refl)
     | inr is ↦ is
   ]
 

@@ -29,8 +29,8 @@ use Rattle.rina_flood.proofs.Runs.{drop_is_plain, put_is_plain, take_is_plain, l
 
 pub first_plain : (n : Network) (link : ℕ) (side : Side) (m : ManagementMessage) (rest : List ManagementMessage) → ArePlain n → n.sent link side ≡ m ∷ rest → is_plain m ≡ true
 first_plain n link side m rest h first =
-    let S : List ManagementMessage → Type 0 = λ s. Contains (s ++ waiting_on (n.numbers link side) (n.agents (n.ends link side)).agenda) m in
-    h link side m (subst S (sym first) (in_first m (rest ++ waiting_on (n.numbers link side) (n.agents (n.ends link side)).agenda)))
+    let S : List ManagementMessage → Type 0 = λ s. Contains (s ++ waiting_at (n.states link side) (n.agents (n.ends link side)).agenda) m in
+    h link side m (subst S (sym first) (in_first m (rest ++ waiting_at (n.states link side) (n.agents (n.ends link side)).agenda)))
 
 make_plain : (n : Network) (i : ℕ) (key : List ℕ) (value : Option (List ℕ)) → ArePlain n → spent 1 (n.agents i).last_count ≡ None → ArePlain (happens n (Make i key value))
 make_plain n i key value p may =
@@ -51,7 +51,7 @@ came_plain n link side m rest x h p first carries =
     let number = n.numbers link (other side) in
     sound_plain n to (took number (n.agents to) x) (put_sent link side rest n.sent) x (λ k. number ≡ k) (taker_sound n link side m rest first x carries h (is_newer x.version (kept_at (n.agents to).items x.key)) refl) p
 
-near_plain : (n : Network) (link : ℕ) (side : Side) (m : LinkMessage) (rest : List ManagementMessage) → Holds n → ArePlain n → n.sent link side ≡ ToNeighbour m ∷ rest → is_plain (ToNeighbour m) ≡ true → ArePlain (happens n (Handle link side (ToNeighbour m) rest))
+near_plain : (n : Network) (link : ℕ) (side : Side) (m : LinkMessage) (rest : List ManagementMessage) → Holds n → ArePlain n → n.sent link side ≡ ToNeighbour m ∷ rest → is_plain (ToNeighbour m) ≡ true → ArePlain (happens n (Handle link side number (ToNeighbour m) rest))
 near_plain n link side (messages.Connect invoke joiner member) rest h p first plain = absurd (both_ways true (sym plain) refl)
 near_plain n link side (messages.ConnectR invoke denied) rest h p first plain = absurd (both_ways true (sym plain) refl)
 near_plain n link side (messages.Start invoke address) rest h p first plain = absurd (both_ways true (sym plain) refl)
@@ -63,15 +63,15 @@ near_plain n link side (messages.Flood x) rest h p first plain = came_plain n li
 
 pub row_plain : (n : Network) (row : Row) → Holds n → ArePlain n → May n row → MakesNoLink row → ArePlain (happens n row)
 row_plain n (Make i key value) h p may static = make_plain n i key value p may
-row_plain n (Put link side m) h p may static = moving_plain n _ n.sent (put_moving n link side m) (put_is_plain n link side m) p
-row_plain n (Take link side m) h p may static = moving_plain n _ _ (take_moving n link side m h may) (take_is_plain n link side m h may) p
-row_plain n (Handle link side (ToNeighbour m) rest) h p may static = near_plain n link side m rest h p may (first_plain n link side (ToNeighbour m) rest p may)
-row_plain n (Handle link side (ToMember m) rest) h p may static = moving_plain n n.agents _ (passed_moving n link side (ToMember m) rest refl may) (passed_is_plain n link side (ToMember m) rest refl may) p
-row_plain n (Lose link side) h p may static =
-    lose_plain n (n.ends link side) (n.numbers link side) (was_up (find (is_numbered (n.numbers link side)) (n.agents (n.ends link side)).links)) (spent 1 (n.agents (n.ends link side)).last_count) h p may
+row_plain n (Put link side number m) h p may static = moving_plain n _ n.sent (put_moving n link side m) (put_is_plain n link side m) p
+row_plain n (Take link side number m) h p may static = moving_plain n _ _ (take_moving n link side m h may) (take_is_plain n link side m h may) p
+row_plain n (Handle link side number (ToNeighbour m) rest) h p may static = near_plain n link side m rest h p may (first_plain n link side (ToNeighbour m) rest p may)
+row_plain n (Handle link side number (ToMember m) rest) h p may static = moving_plain n n.agents _ (passed_moving n link side (ToMember m) rest refl may) (passed_is_plain n link side (ToMember m) rest refl may) p
+row_plain n (Lose link side number) h p may static =
+    lose_plain n (n.ends link side) (n.numbers link side) (was_up (link_at (n.states link side) (n.agents (n.ends link side)).links)) (spent 1 (n.agents (n.ends link side)).last_count) h p may
 row_plain n (Drop link side left) h p may static = moving_plain n n.agents _ (left_moving n link side left may.0 may.1) (left_is_plain n link side left may.0 may.1) p
-row_plain n (Enrol link side member node) h p may static = absurd static
-row_plain n (Claim link side) h p may static = absurd static
+row_plain n (Enrol link side number one two member node) h p may static = absurd static
+row_plain n (Claim link side number) h p may static = absurd static
 row_plain n (Know x) h p may static = know_plain n x p
 row_plain n Pass h p may static = p
 

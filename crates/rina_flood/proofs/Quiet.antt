@@ -57,14 +57,14 @@ module _ (is_static : Bool) (plans : List LinkPlan) (s : MembersSeen) (r : IsRun
   quiet_at l d place q =
       let at = at_end is_static plans s r l d q.end q.agent q.at in
       let handled = q.handled in
-      let waits : waiting_on (n.numbers l d) (n.agents (n.ends l d)).agenda ≡ [] =
+      let waits : waiting_at (n.states l d) (n.agents (n.ends l d)).agenda ≡ [] =
       ap (λ (k : ℕ). waiting_on k (n.agents (n.ends l d)).agenda) at.3
       ∙ ap (λ (i : ℕ). waiting_on q.end.number (n.agents i).agenda) at.2
       ∙ ap (λ (c : Agent). waiting_on q.end.number c.agenda) at.4
       ∙ q.waits in
       let T : List (List ℕ) → Type 0 = λ ts. AreTexts (n.sent l d) ts in
       let sent : n.sent l d ≡ [] = no_texts (n.sent l d) (subst T (past_all (s.sent (end_place l d)) (length (s.got (end_place l (other d)))) (omega (arith, handled))) (r.is.sent l d)) in
-      ap (λ (ms : List ManagementMessage). flat_map carried (ms ++ waiting_on (n.numbers l d) (n.agents (n.ends l d)).agenda)) sent ∙ ap (λ (ms : List ManagementMessage). flat_map carried ms) waits
+      ap (λ (ms : List ManagementMessage). flat_map carried (ms ++ waiting_at (n.states l d) (n.agents (n.ends l d)).agenda)) sent ∙ ap (λ (ms : List ManagementMessage). flat_map carried ms) waits
 
   walk : (i j : ℕ) (steps : List (ℕ × Side × ℕ)) → IsQuietPath s i steps j → IsQuietWalk n (address_in s.members i) (map (λ (t : ℕ × Side × ℕ). (t.0, t.1)) steps) (address_in s.members j)
   walk i j [] path = ap (λ (k : ℕ). address_in s.members k) path

@@ -1,5 +1,5 @@
 -- The start of a DIF as a network: each member that is enrolled keeps the items of the start, and nothing waits or is on its way.
-use Rattle.std.specs.Prelude.{◌≡◌, ℕ, ◌+◌, ◌*◌, ◌<◌, ◌==◌, Bool, true, List, [], length, position, slice_get, Option, Some, None, option_and_then, option_map, unwrap_or, if◌then◌else◌, ◌∷◌, Contains, ◌≤◌, ◌^◌}
+use Rattle.std.specs.Prelude.{◌≡◌, ℕ, ◌+◌, ◌*◌, ◌<◌, ◌==◌, Bool, true, false, List, [], length, position, slice_get, Option, Some, None, option_and_then, option_map, unwrap_or, if◌then◌else◌, ◌∷◌, Contains, ◌≤◌, ◌^◌}
 use Rattle.rina_access.specs.declared.rules.Rules.{Rules}
 use Rattle.rina_newest.specs.declared.item.Item.{Item}
 use Rattle.rina_agent.specs.declared.agent.Agent.{Agent}
