@@ -9,6 +9,7 @@ pub mod Entries
 pub mod Entering
 pub mod Flow
 pub mod Gap
+pub mod Gone
 pub mod Heard
 pub mod Holds
 pub mod Journals

@@ -44,7 +44,7 @@ has_more j (x ∷ links) new e = elim (cases_Bool (x.number == j)) [
   | inr isnt ↦ elim (has_more j links new (rw isnt at e)) [ inl old ↦ inl (rw isnt old) | inr is ↦ inr is ]
 ]
 
-none_more : (j : ℕ) (links : List Link) (new : Link) → find (is_numbered j) links ≡ None → (new.number == j) ≡ false → find (is_numbered j) (links ++ new ∷ []) ≡ None
+pub none_more : (j : ℕ) (links : List Link) (new : Link) → find (is_numbered j) links ≡ None → (new.number == j) ≡ false → find (is_numbered j) (links ++ new ∷ []) ≡ None
 none_more j [] new e apart = rw apart refl
 none_more j (x ∷ links) new e apart = elim (cases_Bool (x.number == j)) [
   | inl is ↦ absurd (none-some x (sym (rw is at e)))
