@@ -1,5 +1,5 @@
 -- What is made where only the rows of a DIF happen.
-use Rattle.std.proofs.Common.{◌≡◌, ℕ, ◌⊎◌, Bool, true, false, cond, nat_eq, List, ◌∷◌, ◌++◌, Contains, Some, refl, ◌≤◌, arith, sym, ◌∙◌, ap, subst, inl, inr, []}
+use Rattle.std.proofs.Common.{◌≡◌, ℕ, ◌⊎◌, Bool, true, false, cond, nat_eq, List, ◌∷◌, ◌++◌, Contains, None, Some, refl, ◌≤◌, arith, sym, ◌∙◌, ap, subst, inl, inr, []}
 use Rattle.std.specs.Prelude.{codes, find}
 use Rattle.std.specs.Fmt.{decimal}
 use Rattle.std.specs.List.{starts_with}

@@ -23,6 +23,7 @@ pub mod Places
 pub mod Plain
 pub mod Quiet
 pub mod Raise
+pub mod Ranges
 pub mod Rows
 pub mod Runs
 pub mod Sample

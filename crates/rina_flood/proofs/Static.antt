@@ -130,7 +130,7 @@ linked_at enrolled links Unmade has = absurd (both_ways true (sym has) refl)
 linked_at enrolled links (There k) has = linked_begun enrolled links k has
 linked_at enrolled links Lost has = absurd (both_ways true (sym has) refl)
 
-no_link_at : (s : EndState) → is_some (link_at s []) ≡ true → ⊥
+pub no_link_at : (s : EndState) → is_some (link_at s []) ≡ true → ⊥
 no_link_at Unmade has = both_ways true (sym has) refl
 no_link_at (There k) has = both_ways true (sym has) refl
 no_link_at Lost has = both_ways true (sym has) refl

@@ -1,5 +1,5 @@
 -- In the start of a static DIF each member keeps its own link state, which names its links.
-use Rattle.std.proofs.Common.{◌≡◌, ℕ, zero, suc, ◌+◌, ◌≤◌, Bool, true, cond, List, ◌∷◌, Contains, Option, Some, None, drop, length, map, slice_get, refl, sym, ◌∙◌, ap, inl, inr, arith, []}
+use Rattle.std.proofs.Common.{◌≡◌, ℕ, zero, suc, ◌+◌, ◌≤◌, Bool, false, true, cond, List, ◌∷◌, Contains, Option, Some, None, drop, length, map, slice_get, refl, sym, ◌∙◌, ap, inl, inr, arith, []}
 use Rattle.std.specs.Prelude.{find, option_and_then, option_map, MatchOption}
 use Rattle.std.specs.List.{cons_option, fold}
 use Rattle.std.proofs.lemmas.List.Elements.{Contains-append_cases, Contains-append_right}
