@@ -18,7 +18,6 @@ use Rattle.rina_newest.specs.declared.item.Item.{Item}
 use Rattle.rina_newest.specs.Newest.{is_newer, kept_at, taken}
 use Rattle.rina_route.proofs.Lists.{contains_filter, contains_unmap}
 use Rattle.rina_agent.specs.declared.agent.Agent.{Agent}
-use Rattle.rina_agent.specs.declared.link.Heard.{Heard}
 use Rattle.rina_agent.specs.declared.link.Link.{Link}
 use Rattle.rina_agent.specs.declared.message.ManagementMessage.{ManagementMessage}
 use Rattle.rina_agent.specs.declared.message.ManagementMessage.TheVariants.{ToNeighbour, ToMember}
@@ -139,18 +138,18 @@ unless_fit : (o : Option AgentError) (a b : Agent) → IsFit a → IsFit b → I
 unless_fit None a b f g = g
 unless_fit (Some e) a b f g = f
 
-connect_as_fit : (d : EnrolDo) (a : Agent) (h : Heard) (reply : LinkMessage) → NearFits reply → IsFit a → IsFit (connected_as d a h reply)
+connect_as_fit : (d : EnrolDo) (a : Agent) (h : _) (reply : LinkMessage) → NearFits reply → IsFit a → IsFit (connected_as d a h reply)
 connect_as_fit does.Nothing a h reply fits f = f
 connect_as_fit (does.ConnectR denied) a h reply fits f = record { agenda = push_fit a.agenda (near h.link.number reply) f.agenda fits; invoke = f.invoke }
 connect_as_fit does.Start a h reply fits f = f
 connect_as_fit does.StartR a h reply fits f = f
 connect_as_fit does.StopR a h reply fits f = f
 
-connect_fit : (o : Option Heard) (a : Agent) (reply : LinkMessage) → NearFits reply → IsFit a → IsFit (connected_by a reply o)
+connect_fit : (o : _) (a : Agent) (reply : LinkMessage) → NearFits reply → IsFit a → IsFit (connected_by a reply o)
 connect_fit None a reply fits f = f
 connect_fit (Some h) a reply fits f = connect_as_fit h.does a h reply fits f
 
-allow_as_fit : (d : EnrolDo) (a : Agent) (h : Heard) (start : LinkMessage) → NearFits start → IsFit a → IsFit (done a (allowed_as d a h start))
+allow_as_fit : (d : EnrolDo) (a : Agent) (h : _) (start : LinkMessage) → NearFits start → IsFit a → IsFit (done a (allowed_as d a h start))
 allow_as_fit does.Nothing a h start fits f = f
 allow_as_fit (does.ConnectR denied) a h start fits f = f
 allow_as_fit does.Start a h start fits f =
@@ -159,19 +158,19 @@ allow_as_fit does.Start a h start fits f =
 allow_as_fit does.StartR a h start fits f = f
 allow_as_fit does.StopR a h start fits f = f
 
-allow_fit : (o : Option Heard) (a : Agent) (start : LinkMessage) → NearFits start → IsFit a → IsFit (done a (allowed_by a start o))
+allow_fit : (o : _) (a : Agent) (start : LinkMessage) → NearFits start → IsFit a → IsFit (done a (allowed_by a start o))
 allow_fit None a start fits f = f
 allow_fit (Some h) a start fits f = allow_as_fit h.does a h start fits f
 
-deny_fit : (o : Option Heard) (a : Agent) (link rule : ℕ) → IsFit a → IsFit (denied_by a link rule o)
+deny_fit : (o : _) (a : Agent) (link rule : ℕ) → IsFit a → IsFit (denied_by a link rule o)
 deny_fit None a link rule f = f
 deny_fit (Some h) a link rule f = record { agenda = f.agenda; invoke = f.invoke }
 
-note_fit : (o : Option Heard) (a : Agent) → IsFit a → IsFit (noted_by a o)
+note_fit : (o : _) (a : Agent) → IsFit a → IsFit (noted_by a o)
 note_fit None a f = f
 note_fit (Some h) a f = record { agenda = f.agenda; invoke = f.invoke }
 
-started_fit : (a : Agent) (now : ℕ) (h : Heard) (invoke address : ℕ) → invoke < 2 ^ 32 → IsFit a → IsFit (started a now h invoke address)
+started_fit : (a : Agent) (now : ℕ) (h : _) (invoke address : ℕ) → invoke < 2 ^ 32 → IsFit a → IsFit (started a now h invoke address)
 started_fit a now h invoke address fits f =
     let k = h.link.number in
     let stop = next_of a.last_invoke in
@@ -183,14 +182,14 @@ started_fit a now h invoke address fits f =
       invoke = next_few a.last_invoke;
     }
 
-start_as_fit : (d : EnrolDo) (a : Agent) (now : ℕ) (h : Heard) (invoke address : ℕ) → invoke < 2 ^ 32 → IsFit a → IsFit (done a (started_as d a now h invoke address))
+start_as_fit : (d : EnrolDo) (a : Agent) (now : ℕ) (h : _) (invoke address : ℕ) → invoke < 2 ^ 32 → IsFit a → IsFit (done a (started_as d a now h invoke address))
 start_as_fit does.Nothing a now h invoke address fits f = f
 start_as_fit (does.ConnectR denied) a now h invoke address fits f = f
 start_as_fit does.Start a now h invoke address fits f = f
 start_as_fit does.StartR a now h invoke address fits f = unless_fit (either (spent 1 a.last_count) (spent 1 a.last_invoke)) a (started a now h invoke address) f (started_fit a now h invoke address fits f)
 start_as_fit does.StopR a now h invoke address fits f = f
 
-start_fit : (o : Option Heard) (a : Agent) (now invoke address : ℕ) → invoke < 2 ^ 32 → IsFit a → IsFit (done a (started_by a now invoke address o))
+start_fit : (o : _) (a : Agent) (now invoke address : ℕ) → invoke < 2 ^ 32 → IsFit a → IsFit (done a (started_by a now invoke address o))
 start_fit None a now invoke address fits f = f
 start_fit (Some h) a now invoke address fits f = start_as_fit h.does a now h invoke address fits f
 
@@ -203,7 +202,7 @@ introduced_fit (Joining link) a now f = made_fit a now _ _ f
 introduced_fit Enrolled a now f = f
 introduced_fit (Denied rule) a now f = made_fit a now _ _ f
 
-entered_fit : (a : Agent) (now : ℕ) (h : Heard) (invoke : ℕ) → invoke < 2 ^ 32 → IsFit a → IsFit (entered a now h invoke)
+entered_fit : (a : Agent) (now : ℕ) (h : _) (invoke : ℕ) → invoke < 2 ^ 32 → IsFit a → IsFit (entered a now h invoke)
 entered_fit a now h invoke fits f =
     let k = h.link.number in
     record {
@@ -213,14 +212,14 @@ entered_fit a now h invoke fits f =
       invoke = f.invoke;
     }
 
-stop_as_fit : (d : EnrolDo) (a : Agent) (now : ℕ) (h : Heard) (invoke : ℕ) → invoke < 2 ^ 32 → IsFit a → IsFit (done a (stopped_as d a now h invoke))
+stop_as_fit : (d : EnrolDo) (a : Agent) (now : ℕ) (h : _) (invoke : ℕ) → invoke < 2 ^ 32 → IsFit a → IsFit (done a (stopped_as d a now h invoke))
 stop_as_fit does.Nothing a now h invoke fits f = f
 stop_as_fit (does.ConnectR denied) a now h invoke fits f = f
 stop_as_fit does.Start a now h invoke fits f = f
 stop_as_fit does.StartR a now h invoke fits f = f
 stop_as_fit does.StopR a now h invoke fits f = unless_fit (spent (need_in a.state) a.last_count) a (entered (introduced_in a.state a now) now h invoke) f (entered_fit (introduced_in a.state a now) now h invoke fits (introduced_fit a.state a now f))
 
-stop_fit : (o : Option Heard) (a : Agent) (now invoke : ℕ) → invoke < 2 ^ 32 → IsFit a → IsFit (done a (stopped_by a now invoke o))
+stop_fit : (o : _) (a : Agent) (now invoke : ℕ) → invoke < 2 ^ 32 → IsFit a → IsFit (done a (stopped_by a now invoke o))
 stop_fit None a now invoke fits f = f
 stop_fit (Some h) a now invoke fits f = stop_as_fit h.does a now h invoke fits f
 
