@@ -12,10 +12,10 @@ use Rattle.rina_agent.specs.declared.message.ManagementMessage.{ManagementMessag
 use Rattle.rina_agent.specs.declared.message.ManagementMessage.TheVariants.{ToNeighbour, ToMember}
 use Rattle.rina_agent.specs.declared.message.Waiting.{Waiting}
 use Rattle.rina_agent.specs.Counts.{next_of, spent}
-use Rattle.rina_agent.specs.Enrolled.{Handles, Loses}
+use Rattle.rina_agent.specs.Enrolled.{Handles}
 use Rattle.rina_agent.specs.Enrolments.{hears, is_numbered}
 use Rattle.rina_agent.specs.Rows.{denial, was_up}
-use Rattle.rina_flood.specs.Network.{Side, other, EndState, Unmade, There, Lost, Network, waiting_at, put_agent, put_sent, unhandled, carried, on_way, Row, Make, Put, Take, Handle, Lose, Drop, Know, Pass, happens, May, IsRun, after_rows, IsStart, with_message, item_in, called, Enrol, Claim, KnowsAll, KnowsNothing}
+use Rattle.rina_flood.specs.Network.{Side, other, EndState, Unmade, There, Gone, Network, waiting_at, put_agent, put_sent, unhandled, carried, on_way, Row, Make, Put, Take, Handle, Lose, Leave, Drop, Know, Pass, happens, May, IsRun, after_rows, IsStart, with_message, item_in, called, Enrol, Claim, KnowsAll, KnowsNothing}
 use Rattle.rina_flood.proofs.Flow.{key_same, itself_least}
 use Rattle.rina_flood.proofs.Holds.{Holds}
 use Rattle.rina_flood.proofs.Places.{nothing_in}
@@ -89,8 +89,8 @@ row_holds n (Make i key value) h may = make_holds n i key value h may
 row_holds n (Put link side number m) h may = moving_holds n (put_agent (n.ends link side) (with_message (n.agents (n.ends link side)) number m) n.agents) n.sent (put_moving n link side number m) h
 row_holds n (Take link side number m) h may = take_holds n link side number m h may.0 may.1
 row_holds n (Handle link side number m rest) h may = handle_holds n link side number m rest h may.0 may.1
-row_holds n (Lose link side number) h may =
-    close_holds (called n (n.ends link side) (Loses n.now number)) link side (lose_by n (n.ends link side) number (was_up (find (is_numbered number) (n.agents (n.ends link side)).links)) (spent 1 (n.agents (n.ends link side)).last_count) h may.1 may.1)
+row_holds n (Lose link side number) h may = lose_by n (n.ends link side) number (was_up (find (is_numbered number) (n.agents (n.ends link side)).links)) (spent 1 (n.agents (n.ends link side)).last_count) h may.1 may.1
+row_holds n (Leave link side number) h may = close_holds n link side h
 row_holds n (Drop link side left) h may = moving_holds n n.agents (put_sent link side left n.sent) (left_moving n link side left may.0 may.1) h
 row_holds n (Enrol link side number i j member node) h may = enrol_holds n link side number i j member node h may.0 may.1 may.2 may.3 may.4
 row_holds n (Claim link side number) h may = claim_holds n link side number h may.1 may.2
@@ -115,7 +115,7 @@ found_key (i ∷ items) key x e = elim (cases_Bool (has_key key i)) [
 none_at : (s : EndState) → waiting_at s [] ≡ []
 none_at Unmade = refl
 none_at (There k) = refl
-none_at Lost = refl
+none_at Gone = refl
 
 pub no_messages : (n : Network) (told : List Item) → IsStart n told → (l : ℕ) (d : Side) → unhandled n l d ≡ []
 no_messages n told s l d =

@@ -23,7 +23,7 @@ use Rattle.rina_data.specs.declared.settings.Member.{Member}
 use Rattle.rina_member.specs.Knowing.{IsLaidOut}
 use Rattle.rina_member.specs.Start.{start_items}
 use Rattle.rina_member.proofs.Laying.{small_address}
-use Rattle.rina_flood.specs.Network.{Side, other, Network, item_in, last_state, put_sent, Row, Make, Put, Take, Handle, Lose, Drop, Know, Pass, Enrol, Claim, happens, May, IsRun, after_rows, IsStart, carried, on_way, unhandled, is_enrolled, put_agent}
+use Rattle.rina_flood.specs.Network.{Side, other, Network, item_in, last_state, put_sent, Row, Make, Put, Take, Handle, Lose, Leave, Drop, Know, Pass, Enrol, Claim, happens, May, IsRun, after_rows, IsStart, carried, on_way, unhandled, is_enrolled, put_agent}
 use Rattle.rina_flood.specs.Static.{IsOfDif, AreOfDif}
 use Rattle.rina_flood.proofs.All.{near_keeps, popped_holds, row_holds, rows_hold, begin_holds}
 use Rattle.rina_flood.proofs.Calls.{at_place}
@@ -139,6 +139,7 @@ row_bounded n (Lose link side number) h may of b =
     let a = n.agents (n.ends link side) in
     let up = was_up (find (is_numbered number) a.links) in
     record { counts = one_few n (n.ends link side) _ (lost_few up (spent 1 a.last_count) a n.now number) b.counts; origins = lost_near n (n.ends link side) number up h (h.laid.fit link side) b.origins }
+row_bounded n (Leave link side number) h may of b = record { counts = b.counts; origins = b.origins }
 row_bounded n (Drop link side left) h may of b = record { counts = b.counts; origins = b.origins }
 row_bounded n (Enrol link side number i j member node) h may of b = record { counts = one_few n i _ (joined_few (spent 1 (n.agents i).last_invoke) (n.agents i) number member node) b.counts; origins = same_near n b.origins }
 row_bounded n (Claim link side number) h may of b = record { counts = one_few n (n.ends link side) _ (λ e. e) b.counts; origins = same_near n b.origins }

@@ -11,7 +11,7 @@ use Rattle.rina_agent.specs.declared.link.Link.{Link}
 use Rattle.rina_agent.specs.declared.message.ManagementMessage.{ManagementMessage}
 use Rattle.rina_agent.specs.Enrolments.{is_numbered}
 use Rattle.rina_agent.specs.Rows.{was_up}
-use Rattle.rina_flood.specs.Network.{Side, other, EndState, Unmade, There, Lost, Network, link_at, put_agent, put_offers, stands, is_up, has_link, AreApart}
+use Rattle.rina_flood.specs.Network.{Side, other, EndState, Unmade, There, Gone, Network, link_at, put_agent, put_offers, stands, is_up, has_link, AreApart}
 use Rattle.rina_flood.proofs.Holds.{IsLaid}
 use Rattle.rina_flood.proofs.Places.{put_case, is_equal}
 
@@ -36,7 +36,7 @@ same_links links = record { up = λ k e. e; has = λ k e. e; apart = λ a. a }
 pub at_state : (P : Option Link → Option Link → Type 0) (before after : List Link) → ((k : ℕ) → P (find (is_numbered k) before) (find (is_numbered k) after)) → P None None → (s : EndState) → P (link_at s before) (link_at s after)
 at_state P before after each none Unmade = none
 at_state P before after each none (There k) = each k
-at_state P before after each none Lost = none
+at_state P before after each none Gone = none
 
 pub fewer_up : (before after : List Link) → AreFewer before after → (s : EndState) → was_up (link_at s after) ≡ true → was_up (link_at s before) ≡ true
 fewer_up before after f = at_state (λ a c. was_up c ≡ true → was_up a ≡ true) before after f.up (λ e. e)

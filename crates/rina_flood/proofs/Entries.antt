@@ -24,7 +24,7 @@ use Rattle.rina_member.specs.Knowing.{IsEntryKey}
 use Rattle.rina_member.specs.Managements.{entry_of}
 use Rattle.rina_member.specs.Start.{first_version, start_items}
 use Rattle.rina_member.proofs.Items.{entry_not_link}
-use Rattle.rina_flood.specs.Network.{Side, other, Network, item_in, last_state, put_sent, Row, Make, Put, Take, Handle, Lose, Drop, Know, Pass, Enrol, Claim, happens, May, IsRun, after_rows, IsStart}
+use Rattle.rina_flood.specs.Network.{Side, other, Network, item_in, last_state, put_sent, Row, Make, Put, Take, Handle, Lose, Leave, Drop, Know, Pass, Enrol, Claim, happens, May, IsRun, after_rows, IsStart}
 use Rattle.rina_flood.specs.Laws.{LeavesLinkState, AllLeaveLinkState}
 use Rattle.rina_flood.specs.Static.{IsFirstEntry, IsOfDif, AreOfDif}
 use Rattle.rina_flood.proofs.All.{near_keeps, row_holds, begin_holds}
@@ -40,6 +40,7 @@ leaves address (Put link side number m) of = tt
 leaves address (Take link side number m) of = tt
 leaves address (Handle link side number m rest) of = tt
 leaves address (Lose link side number) of = tt
+leaves address (Leave link side number) of = tt
 leaves address (Drop link side left) of = tt
 leaves address (Enrol link side number i j member node) of = tt
 leaves address (Claim link side number) of = tt
@@ -113,6 +114,7 @@ row_made n (Take link side number m) h of known x e = known x (none_more n.made 
 row_made n (Handle link side number (ToNeighbour m) rest) h of known x e = handle_known n link side number m rest h known x e
 row_made n (Handle link side number (ToMember m) rest) h of known x e = known x e
 row_made n (Lose link side number) h of known x e = elim (lost_made n (n.ends link side) number (was_up (find (is_numbered number) (n.agents (n.ends link side)).links)) x e) [ inl old ↦ known x old | inr is ↦ is ]
+row_made n (Leave link side number) h of known x e = known x e
 row_made n (Drop link side left) h of known x e = known x e
 row_made n (Enrol link side number i j member node) h of known x e = known x (none_more n.made x e)
 row_made n (Claim link side number) h of known x e = known x (none_more n.made x e)

@@ -1,5 +1,5 @@
 -- The members of a DIF are a network after a run.
-use Rattle.std.proofs.Common.{◌≡◌, ℕ, zero, suc, ◌+◌, ◌≤◌, ◌⊎◌, Bool, true, false, ◌==◌, cond, List, ◌∷◌, ◌++◌, Option, Some, None, drop, length, map, slice_get, slice_set, refl, sym, ◌∙◌, ap, subst, inl, inr, arith, [], Contains, ◌-◌, ◌^◌, ◌<◌}
+use Rattle.std.proofs.Common.{◌≡◌, ℕ, zero, suc, ◌+◌, ◌≤◌, ◌⊎◌, Bool, true, false, ◌==◌, cond, List, ◌∷◌, ◌++◌, Option, Some, None, Ok, Result, drop, length, map, slice_get, slice_set, refl, sym, ◌∙◌, ap, subst, inl, inr, arith, [], Contains, ◌-◌, ◌^◌, ◌<◌}
 use Rattle.std.specs.Prelude.{find, is_some, option_map, option_and_then}
 use Rattle.std.proofs.lemmas.Bool.{and_parts, both_ways, cases_Bool, eq-eqb, eqb-true}
 use Rattle.std.proofs.lemmas.List.{drop-append-le, length-map, length-set, length_push}
@@ -19,11 +19,11 @@ use Rattle.rina_agent.specs.declared.state.MemberState.TheVariants.{Enrolled}
 use Rattle.rina_agent.specs.Agenda.{first_on, waiting_on, without_first}
 use Rattle.rina_agent.specs.Counts.{spent, unless}
 use Rattle.rina_agent.specs.Enrolled.{Claims, Enrols, Event, Handles, Loses, Makes, Takes, after, done}
-use Rattle.rina_agent.specs.Items.{made}
+use Rattle.rina_agent.specs.Items.{made, stated}
 use Rattle.rina_agent.specs.declared.state.AgentError.{AgentError}
 use Rattle.rina_dir.specs.Directory.{key_of}
 use Rattle.rina_agent.specs.Enrolments.{is_numbered}
-use Rattle.rina_agent.specs.Rows.{joined_link, joining, was_up}
+use Rattle.rina_agent.specs.Rows.{dropped, joined_link, joining, lost, was_up}
 use Rattle.rina_plan.specs.declared.dif.LinkPlan.{LinkPlan}
 use Rattle.rina_data.specs.declared.settings.Member.{Member}
 use Rattle.rina_data.proofs.Finding.{there}
@@ -32,15 +32,16 @@ use Rattle.rina_member.specs.Managements.{entry_of, takes_item}
 use Rattle.rina_member.specs.Start.{start_items}
 use Rattle.rina_member.proofs.Laying.{small_address}
 use Rattle.rina_member.proofs.Lists.{is_there}
-use Rattle.rina_flood.specs.Network.{Side, Near, Far, other, EndState, Unmade, There, Lost, Network, IsFree, IsNewNumber, Row, Make, Take, Handle, Lose, Enrol, Claim, Know, Pass, happens, is_up, laid, link_at, put_ends, put_state, unhandled, waiting_at, with_state, put_agent, put_sent, is_enrolled, is_in, known, with_item, MayBeKnown, MayLose, May, IsRun, after_rows, IsStart, has_link}
+use Rattle.rina_flood.specs.Network.{Side, Near, Far, other, EndState, Unmade, There, Gone, Network, AreApart, IsFree, IsNewNumber, Row, Make, Take, Handle, Lose, Leave, Enrol, Claim, Know, Pass, happens, is_up, laid, link_at, put_ends, put_state, unhandled, waiting_at, with_state, put_agent, put_sent, is_enrolled, is_in, known, with_item, MayBeKnown, MayLose, May, IsRun, after_rows, IsStart, has_link}
 use Rattle.rina_flood.specs.Static.{LinkEnd, IsOfDif, AreOfDif, agent_at, end_address, end_state, end_place, AreFirst, first_network, or_nobody, place_at}
 use Rattle.rina_flood.specs.Laws.{IsStatic, MakesNoLink, TellsLinks, TellsNone}
 use Rattle.rina_flood.specs.Members.{Adds, AreSame, AreShortTexts, AreTexts, ClaimsLink, IsAgentAt, IsUnused, JoinsLink, HasNoMember, HandlesMessage, IsNetworkOf, IsRunOf, IsShortText, IsText, LosesLinkAt, MakesEntryAt, MembersSeen, OffersMessage, StartsWith, TakesEntry, GoesOn}
 use Rattle.rina_flood.proofs.Ranges.{message_fits}
+use Rattle.rina_flood.proofs.All.{run_holds}
 use Rattle.rina_flood.proofs.Calls.{at_itself, at_others}
 use Rattle.rina_flood.proofs.Entries.{entries_are_one}
 use Rattle.rina_flood.proofs.Known.{knower_links}
-use Rattle.rina_flood.proofs.Messages.{first_waits}
+use Rattle.rina_flood.proofs.Messages.{first_waits, lost_link}
 use Rattle.rina_flood.proofs.Places.{drop_at, past_all, in_first, direction_case, same_direction, other_back}
 use Rattle.rina_flood.proofs.Settles.{Greatest}
 use Rattle.rina_flood.proofs.Static.{address_is, found_at, found_place, no_link_at, none_at, place_is, network_fresh, network_starts, places_apart}
@@ -294,19 +295,45 @@ goes_on_run is_static plans old new r h =
 
 -- A link is lost
 
+-- a member that lost a link has none of its number
+lost_by : (up : Bool) (o : Option AgentError) (a b : Agent) (now number : ℕ) → AreApart a.links → cond up (unless o (dropped (stated (Some number) a now) number)) (Ok (dropped a number)) ≡ Ok b → find (is_numbered number) b.links ≡ None
+lost_by true None a b now number apart is = sym (ap (λ (t : Result Agent AgentError). find (is_numbered number) (done a t).links) is) ∙ lost_link number a.links apart
+lost_by true (Some e) a b now number apart is = absurd (cc)
+lost_by false o a b now number apart is = sym (ap (λ (t : Result Agent AgentError). find (is_numbered number) (done a t).links) is) ∙ lost_link number a.links apart
+
+module _ (is_static : Bool) (plans : List LinkPlan) (old : MembersSeen) (r : IsRunOf is_static plans old) (l : ℕ) (d : Side) (end : LinkEnd) (agent after : Agent) (number : ℕ) (is_at : IsAgentAt old l d end agent) (has : end.state ≡ There number) (may_lose : MayLose agent number) (loses : lost agent old.now number ≡ Ok after) where
+  abbrev lost_seen : MembersSeen
+  lost_seen = record old { agents = slice_set old.agents end.member after }
+
+  lost_run : IsRunOf is_static plans lost_seen
+  lost_run =
+      let n = net is_static plans old r in
+      let at = at_end is_static plans old r l d end agent is_at in
+      let event : Loses n.now number ≡ Loses old.now number = ap (λ (t : ℕ). Loses t number) r.is.now in
+      let may : MayLose (n.agents (n.ends l d)) number = subst (λ (i : ℕ). MayLose (n.agents i) number) (sym at.2) (subst (λ (c : Agent). MayLose c number) (sym at.4) may_lose) in
+      let are = called_at n.agents (n.ends l d) at.0.addr agent after (Loses n.now number) (Loses old.now number) at.2 at.4 event (ap (λ o. done agent o) loses) in
+      more_rows is_static plans old r lost_seen (Lose l d number) refl r.short (at.3 ∙ has, may) tt (λ still. tt)
+      (changed is_static plans old r end.member at.0 agent after at.1 is_at.is_agent _ n.sent _ _ old.sent old.got are r.is.fewer r.is.sent)
+
+  -- and then the end is gone
+  left_run : IsRunOf is_static plans (record lost_seen { ends = slice_set old.ends (end_place l d) (record end { state = Gone }) })
+  left_run =
+      let before = net is_static plans old r in
+      let was = at_end is_static plans old r l d end agent is_at in
+      let holds = run_holds r.start (start_items is_static old.members plans) r.rows r.starts r.run in
+      let apart : AreApart agent.links = subst (λ (c : Agent). AreApart c.links) was.4 (holds.laid.apart was.0.addr) in
+      let none : find (is_numbered number) after.links ≡ None = lost_by (was_up (find (is_numbered number) agent.links)) (spent 1 agent.last_count) agent after old.now number apart loses in
+      let n = net is_static plans lost_seen lost_run in
+      let at = at_end is_static plans lost_seen lost_run l d end after (record { is_end = is_at.is_end; is_agent = slice_get-set_same old.agents end.member agent after is_at.is_agent }) in
+      let may : find (is_numbered number) (n.agents (n.ends l d)).links ≡ None = ap (λ (i : ℕ). find (is_numbered number) (n.agents i).links) at.2 ∙ ap (λ (c : Agent). find (is_numbered number) c.links) at.4 ∙ none in
+      more_rows is_static plans lost_seen lost_run (record lost_seen { ends = slice_set old.ends (end_place l d) (record end { state = Gone }) }) (Leave l d number) refl lost_run.short (at.3 ∙ has, may) tt (λ still. tt)
+      (restated lost_seen n l d end Gone is_at.is_end lost_run.is)
+
 pub loses_run : (is_static : Bool) (plans : List LinkPlan) (old new : MembersSeen) → IsRunOf is_static plans old → LosesLinkAt old new → IsRunOf is_static plans new
-loses_run is_static plans old new r h =
-    let n = net is_static plans old r in
-    let l = h.link in
-    let d = h.side in
-    let at = at_end is_static plans old r l d h.end h.agent h.at in
-    let event : Loses n.now h.number ≡ Loses old.now h.number = ap (λ (t : ℕ). Loses t h.number) r.is.now in
-    let may : MayLose (n.agents (n.ends l d)) h.number = subst (λ (i : ℕ). MayLose (n.agents i) h.number) (sym at.2) (subst (λ (c : Agent). MayLose c h.number) (sym at.4) h.may) in
-    let are = called_at n.agents (n.ends l d) at.0.addr h.agent h.after (Loses n.now h.number) (Loses old.now h.number) at.2 at.4 event (ap (λ o. done h.agent o) h.loses) in
-    let lost = changed is_static plans old r h.end.member at.0 h.agent h.after at.1 h.at.is_agent _ n.sent _ _ old.sent old.got are r.is.fewer r.is.sent in
-    let s' : MembersSeen = record old { agents = slice_set old.agents h.end.member h.after; ends = slice_set old.ends (end_place l d) (record h.end { state = Lost }) } in
-    alike_run is_static plans s' new (more_rows is_static plans old r s' (Lose l d h.number) refl r.short (at.3 ∙ h.there, may) tt (λ still. tt)
-    (restated (record old { agents = slice_set old.agents h.end.member h.after }) _ l d h.end Lost h.at.is_end lost)) h.members h.ends h.now h.agents h.sent h.got
+loses_run is_static plans old new r h = elim h.ends [
+  | inl stay ↦ alike_run is_static plans (record old { agents = slice_set old.agents h.end.member h.after }) new (lost_run is_static plans old r h.link h.side h.end h.agent h.after h.number h.at h.there h.may h.loses) h.members stay h.now h.agents h.sent h.got
+  | inr left ↦ alike_run is_static plans (record old { agents = slice_set old.agents h.end.member h.after; ends = slice_set old.ends (end_place h.link h.side) (record h.end { state = Gone }) }) new (left_run is_static plans old r h.link h.side h.end h.agent h.after h.number h.at h.there h.may h.loses) h.members left h.now h.agents h.sent h.got
+]
 
 -- A directory entry is made
 

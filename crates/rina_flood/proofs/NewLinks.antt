@@ -16,7 +16,7 @@ use Rattle.rina_agent.specs.Counts.{next_of, spent, unless}
 use Rattle.rina_agent.specs.Enrolled.{done}
 use Rattle.rina_agent.specs.Enrolments.{is_numbered}
 use Rattle.rina_agent.specs.Rows.{was_up, joining, joining_link, joined_link}
-use Rattle.rina_flood.specs.Network.{Side, other, EndState, Unmade, There, Lost, Network, link_at, waiting_at, put_agent, put_offers, put_state, laid, with_state, stands, is_up, has_link, unhandled, carried, on_way, AreApart, IsFree, IsNewNumber, Enrol, Claim, happens}
+use Rattle.rina_flood.specs.Network.{Side, other, EndState, Unmade, There, Gone, Network, link_at, waiting_at, put_agent, put_offers, put_state, laid, with_state, stands, is_up, has_link, unhandled, carried, on_way, AreApart, IsFree, IsNewNumber, Enrol, Claim, happens}
 use Rattle.rina_flood.proofs.Calls.{same_links, at_place, at_state, knows_same, offers_from}
 use Rattle.rina_flood.proofs.Enrolling.{put_quiet}
 use Rattle.rina_flood.proofs.Flow.{moved_flooded}
@@ -71,7 +71,7 @@ up_more_at s links new down = at_state (λ a c. was_up c ≡ true → was_up a �
 has_more_at : (s : EndState) (links : List Link) (new : Link) → is_some (link_at s (links ++ new ∷ [])) ≡ true → (is_some (link_at s links) ≡ true) ⊎ (s ≡ There new.number)
 has_more_at Unmade links new e = inl e
 has_more_at (There k) links new e = elim (has_more k links new e) [ inl old ↦ inl old | inr is ↦ inr (ap There (sym is)) ]
-has_more_at Lost links new e = inl e
+has_more_at Gone links new e = inl e
 
 module _ (n : Network) (link : ℕ) (side : Side) (at : ℕ) (is_at : n.ends link side ≡ at) (b : Agent) (new : Link) (h : Holds n) (there : n.states link side ≡ There new.number) (fresh : find (is_numbered new.number) (n.agents at).links ≡ None) (off : is_up n link (other side) ≡ false) (down : new.up ≡ false) where
   pub record IsLinked : Type 0 where

@@ -11,12 +11,12 @@ use Rattle.rina_agent.specs.declared.message.ManagementMessage.{ManagementMessag
 use Rattle.rina_agent.specs.declared.message.ManagementMessage.TheVariants.{ToNeighbour, ToMember}
 use Rattle.rina_agent.specs.declared.state.AgentError.{AgentError}
 use Rattle.rina_agent.specs.Counts.{spent, unless}
-use Rattle.rina_agent.specs.Enrolled.{Loses, done}
+use Rattle.rina_agent.specs.Enrolled.{done}
 use Rattle.rina_agent.specs.Enrolments.{is_numbered}
 use Rattle.rina_agent.specs.Items.{made, stated, took, own_item}
 use Rattle.rina_agent.specs.Neighbours.{link_key, link_state}
 use Rattle.rina_agent.specs.Rows.{was_up, dropped}
-use Rattle.rina_flood.specs.Network.{Side, other, There, Network, waiting_at, called, put_agent, put_offers, put_sent, carried, Row, Make, Put, Take, Handle, Lose, Drop, Know, Pass, happens, May, IsRun, after_rows, IsStart, Enrol, Claim}
+use Rattle.rina_flood.specs.Network.{Side, other, There, Network, waiting_at, put_agent, put_offers, put_sent, carried, Row, Make, Put, Take, Handle, Lose, Leave, Drop, Know, Pass, happens, May, IsRun, after_rows, IsStart, Enrol, Claim}
 use Rattle.rina_flood.proofs.Holds.{is_plain, ArePlain, Holds}
 use Rattle.rina_flood.proofs.Known.{know_plain}
 use Rattle.rina_flood.proofs.Places.{nothing_in, in_first}
@@ -66,8 +66,8 @@ row_plain n (Put link side number m) h p may static = moving_plain n _ n.sent (p
 row_plain n (Take link side number m) h p may static = moving_plain n _ _ (take_moving n link side number m h may.0 may.1) (take_is_plain n link side number m h may.0 may.1) p
 row_plain n (Handle link side number (ToNeighbour m) rest) h p may static = near_plain n link side number m rest h p may.0 may.1 (first_plain n link side (ToNeighbour m) rest p may.1)
 row_plain n (Handle link side number (ToMember m) rest) h p may static = moving_plain n n.agents _ (passed_moving n link side (ToMember m) rest refl may.1) (passed_is_plain n link side (ToMember m) rest refl may.1) p
-row_plain n (Lose link side number) h p may static = λ l d m e.
-    lose_plain n (n.ends link side) number (was_up (find (is_numbered number) (n.agents (n.ends link side)).links)) (spent 1 (n.agents (n.ends link side)).last_count) h p may.1 l d m (lost_follows (called n (n.ends link side) (Loses n.now number)) link side l d m e)
+row_plain n (Lose link side number) h p may static = lose_plain n (n.ends link side) number (was_up (find (is_numbered number) (n.agents (n.ends link side)).links)) (spent 1 (n.agents (n.ends link side)).last_count) h p may.1
+row_plain n (Leave link side number) h p may static = λ l d m e. p l d m (lost_follows n link side l d m e)
 row_plain n (Drop link side left) h p may static = moving_plain n n.agents _ (left_moving n link side left may.0 may.1) (left_is_plain n link side left may.0 may.1) p
 row_plain n (Enrol link side number i j member node) h p may static = absurd static
 row_plain n (Claim link side number) h p may static = absurd static

@@ -82,11 +82,11 @@ has_told is_static plans s r m true steps among is some = inl (r.tells is m amon
 has_told is_static plans s r m false steps among is (inl still) = absurd (both_ways is_static is still)
 has_told is_static plans s r m false steps among is (inr some) = inr (r.tells_none is m among, some)
 
-mapped_none : (steps : List (ℕ × Side × ℕ)) → map (λ (t : ℕ × Side × ℕ). (t.0, t.1)) steps ≡ [] → steps ≡ []
+mapped_none : (steps : List (ℕ × Side × ℕ)) → map {B = ℕ × Side} (λ (t : ℕ × Side × ℕ). (t.0, t.1)) steps ≡ [] → steps ≡ []
 mapped_none [] none = refl
 mapped_none (step ∷ steps) none = absurd (cc)
 
-some_steps : {A : Type 0} (steps : List (ℕ × Side × ℕ)) → A ⊎ (steps ≡ [] → ⊥) → A ⊎ (map (λ (t : ℕ × Side × ℕ). (t.0, t.1)) steps ≡ [] → ⊥)
+some_steps : {A : Type 0} (steps : List (ℕ × Side × ℕ)) → A ⊎ (steps ≡ [] → ⊥) → A ⊎ (map {B = ℕ × Side} (λ (t : ℕ × Side × ℕ). (t.0, t.1)) steps ≡ [] → ⊥)
 some_steps steps (inl a) = inl a
 some_steps steps (inr some) = inr (λ none. some (mapped_none steps none))
 
@@ -100,7 +100,7 @@ quiet_agree greatest is_static plans s i j steps m a b r path is_m is_a is_b =
     let told = start_items is_static s.members plans in
     let path_is = walk is_static plans s r i j steps path in
     let among = is_there s.members i m is_m in
-    let walked = map (λ (t : ℕ × Side × ℕ). (t.0, t.1)) steps in
+    let walked : List (ℕ × Side) = map (λ (t : ℕ × Side × ℕ). (t.0, t.1)) steps in
     let W : ℕ → Type 0 = λ k. IsQuietWalk (n is_static plans s r) k walked (address_in s.members j) in
     let tells = λ (some : (is_static ≡ true) ⊎ (steps ≡ [] → ⊥)). quiet_tells greatest r.start told r.rows m.addr (address_in s.members j) walked r.starts r.run (small_address s.members plans r.laid_out m among)
     (has_told is_static plans s r m is_static walked among refl (some_steps steps some)) (rows_leave r.rows m.addr r.of) (subst W (address_is s.members i m is_m) path_is) in (

@@ -16,7 +16,7 @@ use Rattle.rina_agent.specs.Enrolled.{IsAtLeast}
 use Rattle.rina_agent.specs.Enrolments.{is_numbered}
 use Rattle.rina_agent.specs.Rows.{was_up}
 use Rattle.rina_agent.proofs.Taking.{taken_same}
-use Rattle.rina_flood.specs.Network.{Side, other, EndState, Unmade, There, Lost, Network, link_at, waiting_at, put_agent, stands, is_up, has_link, unhandled, carried, on_way, AreApart}
+use Rattle.rina_flood.specs.Network.{Side, other, EndState, Unmade, There, Gone, Network, link_at, waiting_at, put_agent, stands, is_up, has_link, unhandled, carried, on_way, AreApart}
 use Rattle.rina_flood.specs.Laws.{Owes, IsComing}
 use Rattle.rina_flood.proofs.Calls.{at_itself, at_place, at_state}
 use Rattle.rina_flood.proofs.Flow.{key_same, key_itself, not_below_itself, kept_new, kept_other, itself_least}
@@ -155,12 +155,12 @@ module _ (n : Network) (i : ℕ) (b : Agent) (k : ℕ) (batch : List Waiting) (r
   only_at : (j : EndState) (m : ManagementMessage) (y : Item) → Contains (waiting_at j batch) m → Contains (carried m) y → Contains (n.agents i).items y
   only_at Unmade m y e has = absurd (nothing_in m e)
   only_at (There j) m y e has = r.only j m y e has
-  only_at Lost m y e has = absurd (nothing_in m e)
+  only_at Gone m y e has = absurd (nothing_in m e)
 
   up_at : (j : EndState) → was_up (link_at j b.links) ≡ true → (was_up (link_at j (n.agents i).links) ≡ true) ⊎ (j ≡ There k)
   up_at Unmade e = inl e
   up_at (There j) e = elim (r.up j e) [ inl old ↦ inl old | inr is ↦ inr (ap There is) ]
-  up_at Lost e = inl e
+  up_at Gone e = inl e
 
   has_at : (j : EndState) → is_some (link_at j b.links) ≡ true → is_some (link_at j (n.agents i).links) ≡ true
   has_at = at_state (λ o c. is_some c ≡ true → is_some o ≡ true) (n.agents i).links b.links r.has (λ e. e)

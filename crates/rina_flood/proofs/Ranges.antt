@@ -29,14 +29,15 @@ use Rattle.rina_agent.specs.Agenda.{first_on, flood_on, floods, is_flooded, item
 use Rattle.rina_agent.specs.Counts.{next_of, spent, unless}
 use Rattle.rina_agent.specs.Enrolled.{Handles, done}
 use Rattle.rina_agent.specs.Enrolments.{hears, is_numbered}
-use Rattle.rina_agent.specs.Items.{made, stated, took}
-use Rattle.rina_agent.specs.Rows.{allowed_as, allowed_by, connected_as, connected_by, denial, denial_in, denied_by, dropped, either, entered, handled, introduced_in, joined_link, joining, need_in, noted_by, start_batch, started, started_as, started_by, stop_batch, stopped_as, stopped_by, was_up}
+use Rattle.rina_agent.specs.Items.{made, own_item, stated, took}
+use Rattle.rina_agent.specs.Neighbours.{link_key, link_state}
+use Rattle.rina_agent.specs.Rows.{allowed_as, allowed_by, connected_as, connected_by, denial, denial_in, denied_by, dropped, either, entered, handled, introduced_in, joined_link, joining, need_in, noted_by, peer_by, start_batch, started, started_as, started_by, stop_batch, stopped_as, stopped_by, up_link, was_up}
 use Rattle.rina_plan.specs.declared.dif.LinkPlan.{LinkPlan}
 use Rattle.rina_data.specs.declared.settings.Member.{Member}
 use Rattle.rina_member.specs.Knowing.{IsLaidOut}
 use Rattle.rina_member.specs.Start.{start_items}
 use Rattle.rina_member.proofs.Lists.{found}
-use Rattle.rina_flood.specs.Network.{Side, other, EndState, Unmade, There, Lost, Network, put_agent, put_sent, unhandled, waiting_at, Row, Make, Put, Take, Handle, Lose, Drop, Enrol, Claim, Know, Pass, happens, May, IsRun, after_rows, IsStart, is_enrolled, with_message}
+use Rattle.rina_flood.specs.Network.{Side, other, EndState, Unmade, There, Gone, Network, put_agent, put_sent, unhandled, waiting_at, Row, Make, Put, Take, Handle, Lose, Leave, Drop, Enrol, Claim, Know, Pass, happens, May, IsRun, after_rows, IsStart, is_enrolled, with_message}
 use Rattle.rina_flood.specs.Static.{AreOfDif}
 use Rattle.rina_flood.proofs.All.{begin_holds, row_holds}
 use Rattle.rina_flood.proofs.Bounds.{item_fits}
@@ -128,8 +129,8 @@ denial_fits Outside rules default joiner few = omega arith
 denial_fits (Joining link) rules default joiner few = omega arith
 denial_fits (Denied rule) rules default joiner few = omega arith
 denial_fits Enrolled rules default joiner few = elim (cases_Bool (decided rules default joiner acts.Enrol).allow) [
-  | inl yes ↦ rw yes tt
-  | inr no ↦ rw no (rule_fits rules default joiner acts.Enrol few)
+  | inl allowed ↦ rw allowed tt
+  | inr denies ↦ rw denies (rule_fits rules default joiner acts.Enrol few)
 ]
 
 -- What a member does at a message
@@ -170,17 +171,24 @@ note_fit : (o : _) (a : Agent) → IsFit a → IsFit (noted_by a o)
 note_fit None a f = f
 note_fit (Some h) a f = record { agenda = f.agenda; invoke = f.invoke }
 
+made_fit : (a : Agent) (now : ℕ) (key : List ℕ) (value : Option (List ℕ)) → IsFit a → IsFit (made None a now key value)
+made_fit a now key value f = record { agenda = both_fit a.agenda (floods None (own_item a now key value) a.links) f.agenda (floods_fit None (own_item a now key value) a.links); invoke = f.invoke }
+
+stated_fit : (out : Option ℕ) (a : Agent) (now : ℕ) → IsFit a → IsFit (stated out a now)
+stated_fit out a now f =
+    let x = own_item a now (link_key a.address) (Some (link_state out a.links)) in
+    record { agenda = both_fit a.agenda (floods out x a.links) f.agenda (floods_fit out x a.links); invoke = f.invoke }
+
 started_fit : (a : Agent) (now : ℕ) (h : _) (invoke address : ℕ) → invoke < 2 ^ 32 → IsFit a → IsFit (started a now h invoke address)
 started_fit a now h invoke address fits f =
     let k = h.link.number in
     let stop = next_of a.last_invoke in
-    record {
-      agenda = both_fit (a.agenda ++ start_batch k invoke a.items stop) (floods None _ _)
-          (both_fit a.agenda (start_batch k invoke a.items stop) f.agenda
-          (cons_fit (near k (messages.StartR invoke)) (map (item_on k) a.items ++ near k (messages.Stop stop) ∷ []) fits (push_fit (map (item_on k) a.items) (near k (messages.Stop stop)) (items_fit k a.items) (next_few a.last_invoke))))
-          (floods_fit None _ _);
+    let c : Agent = record a { last_invoke = stop; links = slice_set a.links h.at (up_link (Some address) h.link); agenda = a.agenda ++ start_batch k invoke a.items stop } in
+    stated_fit None c now (record {
+      agenda = both_fit a.agenda (start_batch k invoke a.items stop) f.agenda
+          (cons_fit (near k (messages.StartR invoke)) (map (item_on k) a.items ++ near k (messages.Stop stop) ∷ []) fits (push_fit (map (item_on k) a.items) (near k (messages.Stop stop)) (items_fit k a.items) (next_few a.last_invoke)));
       invoke = next_few a.last_invoke;
-    }
+    })
 
 start_as_fit : (d : EnrolDo) (a : Agent) (now : ℕ) (h : _) (invoke address : ℕ) → invoke < 2 ^ 32 → IsFit a → IsFit (done a (started_as d a now h invoke address))
 start_as_fit does.Nothing a now h invoke address fits f = f
@@ -193,9 +201,6 @@ start_fit : (o : _) (a : Agent) (now invoke address : ℕ) → invoke < 2 ^ 32 �
 start_fit None a now invoke address fits f = f
 start_fit (Some h) a now invoke address fits f = start_as_fit h.does a now h invoke address fits f
 
-made_fit : (a : Agent) (now : ℕ) (key : List ℕ) (value : Option (List ℕ)) → IsFit a → IsFit (made None a now key value)
-made_fit a now key value f = record { agenda = both_fit a.agenda (floods None _ a.links) f.agenda (floods_fit None _ a.links); invoke = f.invoke }
-
 introduced_fit : (s : MemberState) (a : Agent) (now : ℕ) → IsFit a → IsFit (introduced_in s a now)
 introduced_fit Outside a now f = made_fit a now _ _ f
 introduced_fit (Joining link) a now f = made_fit a now _ _ f
@@ -205,12 +210,11 @@ introduced_fit (Denied rule) a now f = made_fit a now _ _ f
 entered_fit : (a : Agent) (now : ℕ) (h : _) (invoke : ℕ) → invoke < 2 ^ 32 → IsFit a → IsFit (entered a now h invoke)
 entered_fit a now h invoke fits f =
     let k = h.link.number in
-    record {
-      agenda = both_fit (a.agenda ++ stop_batch k invoke a.items) (floods None _ _)
-          (both_fit a.agenda (stop_batch k invoke a.items) f.agenda (cons_fit (near k (messages.StopR invoke)) (map (item_on k) a.items) fits (items_fit k a.items)))
-          (floods_fit None _ _);
+    let c : Agent = record a { state = Enrolled; links = slice_set a.links h.at (up_link (peer_by h.link.enrolment a.items) h.link); agenda = a.agenda ++ stop_batch k invoke a.items } in
+    stated_fit None c now (record {
+      agenda = both_fit a.agenda (stop_batch k invoke a.items) f.agenda (cons_fit (near k (messages.StopR invoke)) (map (item_on k) a.items) fits (items_fit k a.items));
       invoke = f.invoke;
-    }
+    })
 
 stop_as_fit : (d : EnrolDo) (a : Agent) (now : ℕ) (h : _) (invoke : ℕ) → invoke < 2 ^ 32 → IsFit a → IsFit (done a (stopped_as d a now h invoke))
 stop_as_fit does.Nothing a now h invoke fits f = f
@@ -246,9 +250,6 @@ handled_fit a now k (messages.Flood x) fits small f = took_fit (is_newer x.versi
 
 dropped_fit : (a : Agent) (k : ℕ) → IsFit a → IsFit (dropped a k)
 dropped_fit a k f = record { agenda = λ w e. (let r = contains_filter (λ (v : Waiting). not (waits_on k v)) a.agenda w e in f.agenda w r.0); invoke = f.invoke }
-
-stated_fit : (out : Option ℕ) (a : Agent) (now : ℕ) → IsFit a → IsFit (stated out a now)
-stated_fit out a now f = record { agenda = both_fit a.agenda (floods out _ a.links) f.agenda (floods_fit out _ a.links); invoke = f.invoke }
 
 lost_fit : (up : Bool) (o : Option AgentError) (a : Agent) (now k : ℕ) → IsFit a → IsFit (done a (cond up (unless o (dropped (stated (Some k) a now) k)) (Ok (dropped a k))))
 lost_fit true None a now k f = dropped_fit (stated (Some k) a now) k (stated_fit (Some k) a now f)
@@ -307,6 +308,7 @@ row_fit n (Lose link side number) h may f = record {
   agents = one_fit n (n.ends link side) _ (lost_fit (was_up (find (is_numbered number) (n.agents (n.ends link side)).links)) (spent 1 (n.agents (n.ends link side)).last_count) (n.agents (n.ends link side)) n.now number) f;
   sent = f.sent;
 }
+row_fit n (Leave link side number) h may f = record { agents = f.agents; sent = f.sent }
 row_fit n (Drop link side left) h may f = record { agents = f.agents; sent = put_fit n link side left f (λ z e. f.sent link side z (may.1 z e)) }
 row_fit n (Enrol link side number i j member node) h may f =
     let a = n.agents i in
@@ -333,7 +335,7 @@ waiting_fits (There k) a m f e =
     let r = contains_unmap (λ (w : Waiting). w.message) _ m e in
     let w = contains_filter (waits_on k) a.agenda r.0 r.1 in
     subst Fits r.2 (f.agenda r.0 w.0)
-waiting_fits Lost a m f e = absurd (nothing_in m e)
+waiting_fits Gone a m f e = absurd (nothing_in m e)
 
 module _ (is_static : Bool) (n : Network) (members : List Member) (plans : List LinkPlan) (rows : List Row) (laid : IsLaidOut members plans) (s : IsStart n (start_items is_static members plans)) (run : IsRun n rows) (of : AreOfDif rows) (fresh : (i : ℕ) → ((n.agents i).last_count ≡ 0) × ((n.agents i).last_invoke ≡ 0)) where
   first_fit : AreFit n

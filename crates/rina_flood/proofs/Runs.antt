@@ -1,5 +1,5 @@
 -- The other rows: messages move, or are lost with their links.
-use Rattle.std.proofs.Common.{◌≡◌, ℕ, ◌⊎◌, Bool, true, false, ◌&&◌, ◌||◌, cond, List, ◌∷◌, ◌++◌, Contains, Option, Some, None, Ok, refl, sym, ◌∙◌, ap, subst, inl, inr, arith, append_assoc, []}
+use Rattle.std.proofs.Common.{◌≡◌, ℕ, ◌⊎◌, Bool, true, false, ◌&&◌, ◌||◌, not, cond, List, ◌∷◌, ◌++◌, Contains, Option, Some, None, Ok, refl, sym, ◌∙◌, ap, subst, inl, inr, arith, append_assoc, []}
 use Rattle.std.specs.Prelude.{find, is_some}
 use Rattle.std.proofs.lemmas.Bool.{and_parts, and_from, both_ways}
 use Rattle.std.proofs.lemmas.List.{append-nil}
@@ -21,7 +21,7 @@ use Rattle.rina_agent.specs.Enrolments.{is_numbered}
 use Rattle.rina_agent.specs.Items.{made, stated, own_item}
 use Rattle.rina_agent.specs.Neighbours.{link_key, link_state}
 use Rattle.rina_agent.specs.Rows.{was_up, dropped}
-use Rattle.rina_flood.specs.Network.{Side, Near, Far, other, EndState, Unmade, There, Lost, is_lost, Network, link_at, waiting_at, put_agent, put_offers, put_sent, stands, is_up, has_link, unhandled, carried, on_way, Take, Pass, happens, with_message}
+use Rattle.rina_flood.specs.Network.{Side, Near, Far, other, EndState, Unmade, There, Gone, has_lost, is_lost, Network, link_at, waiting_at, put_agent, put_offers, put_sent, stands, is_up, has_link, unhandled, carried, on_way, Take, Pass, happens, with_message}
 use Rattle.rina_flood.proofs.Agendas.{lost_fewer, dropped_from_at, dropped_stays_at}
 use Rattle.rina_flood.proofs.Calls.{AreFewer, fewer_has, fewer_up, same_links, at_itself, at_place, knows_same, offers_from}
 use Rattle.rina_flood.proofs.Flow.{IsMoved, moved_flooded}
@@ -176,7 +176,7 @@ lose_by n i k false o h may is =
 pub none_waits : (k : EndState) (m : ManagementMessage) → Contains (waiting_at k []) m → ⊥
 none_waits Unmade m e = nothing_in m e
 none_waits (There k) m e = nothing_in m e
-none_waits Lost m e = nothing_in m e
+none_waits Gone m e = nothing_in m e
 
 pub put_moving : (n : Network) (link : ℕ) (side : Side) (number : ℕ) (m : FlowMessage) → IsMoving n (put_agent (n.ends link side) (with_message (n.agents (n.ends link side)) number m) n.agents) n.sent
 put_moving n link side number m =
@@ -268,20 +268,20 @@ both_there : (n : Network) (l : ℕ) (d : Side) → stands n l d ≡ true → (h
 both_there n l Near e = (let both = and_parts _ _ e in and_from (has_link n l Near) (has_link n l Far) (up_is_some (link_at (n.states l Near) (n.agents (n.ends l Near)).links) both.0) both.1)
 both_there n l Far e = (let both = and_parts _ _ e in and_from (has_link n l Near) (has_link n l Far) both.1 (up_is_some (link_at (n.states l Far) (n.agents (n.ends l Far)).links) both.0))
 
--- an end that has the link is not lost
-has_not_lost : (s : EndState) (links : List Link) → is_some (link_at s links) ≡ true → is_lost s ≡ false
+-- an end that has the link has not lost it
+has_not_lost : (s : EndState) (links : List Link) → is_some (link_at s links) ≡ true → has_lost s links ≡ false
 has_not_lost Unmade links e = refl
-has_not_lost (There k) links e = refl
-has_not_lost Lost links e = absurd (both_ways true (sym e) refl)
+has_not_lost (There k) links e = ap not e
+has_not_lost Gone links e = absurd (both_ways true (sym e) refl)
 
-none_lost : (n : Network) (l : ℕ) (d : Side) → stands n l d ≡ true → (is_lost (n.states l Near) || is_lost (n.states l Far)) ≡ false
+none_lost : (n : Network) (l : ℕ) (d : Side) → stands n l d ≡ true → (is_lost n l Near || is_lost n l Far) ≡ false
 none_lost n l d up =
     let both = and_parts _ _ (both_there n l d up) in
     let near = has_not_lost (n.states l Near) (n.agents (n.ends l Near)).links both.0 in
     let far = has_not_lost (n.states l Far) (n.agents (n.ends l Far)).links both.1 in
-    ap (λ (b : Bool). b || is_lost (n.states l Far)) near ∙ far
+    ap (λ (b : Bool). b || is_lost n l Far) near ∙ far
 
-pub left_moving : (n : Network) (link : ℕ) (side : Side) (left : List ManagementMessage) → (is_lost (n.states link Near) || is_lost (n.states link Far)) ≡ true → ((m : ManagementMessage) → Contains left m → Contains (n.sent link side) m) → IsMoving n n.agents (put_sent link side left n.sent)
+pub left_moving : (n : Network) (link : ℕ) (side : Side) (left : List ManagementMessage) → (is_lost n link Near || is_lost n link Far) ≡ true → ((m : ManagementMessage) → Contains left m → Contains (n.sent link side) m) → IsMoving n n.agents (put_sent link side left n.sent)
 left_moving n link side left lost was = record {
   same = λ j. the_same (n.agents j);
   plain = true;
@@ -297,7 +297,7 @@ left_moving n link side left lost was = record {
   remains = λ l d m up e.
       (let P : List ManagementMessage → Type 0 = λ s. Contains (s ++ waiting_at (n.states l d) (n.agents (n.ends l d)).agenda) m in
       inl (direction_case P link side l d left (n.sent l d)
-      (λ a b. (let Q : ℕ → Type 0 = λ k. (is_lost (n.states k Near) || is_lost (n.states k Far)) ≡ false in absurd (both_ways (is_lost (n.states link Near) || is_lost (n.states link Far)) (subst Q a (none_lost n l d up)) lost)))
+      (λ a b. (let Q : ℕ → Type 0 = λ k. (is_lost n k Near || is_lost n k Far) ≡ false in absurd (both_ways (is_lost n link Near || is_lost n link Far) (subst Q a (none_lost n l d up)) lost)))
       (λ apart. e)));
 }
 
@@ -367,7 +367,7 @@ pub take_is_plain : (n : Network) (link : ℕ) (side : Side) (number : ℕ) (m :
 unfolding take_moving
 take_is_plain n link side number m h there first = refl
 
-pub left_is_plain : (n : Network) (link : ℕ) (side : Side) (left : List ManagementMessage) (lost : (is_lost (n.states link Near) || is_lost (n.states link Far)) ≡ true) (was : (m : ManagementMessage) → Contains left m → Contains (n.sent link side) m) → (left_moving n link side left lost was).plain ≡ true
+pub left_is_plain : (n : Network) (link : ℕ) (side : Side) (left : List ManagementMessage) (lost : (is_lost n link Near || is_lost n link Far) ≡ true) (was : (m : ManagementMessage) → Contains left m → Contains (n.sent link side) m) → (left_moving n link side left lost was).plain ≡ true
 unfolding left_moving
 left_is_plain n link side left lost was = refl
 

@@ -11,7 +11,7 @@ use Rattle.rina_agent.specs.Agenda.{waiting_on}
 use Rattle.rina_agent.specs.Enrolled.{IsAtLeast}
 use Rattle.rina_agent.specs.Enrolments.{is_numbered}
 use Rattle.rina_agent.specs.Rows.{was_up}
-use Rattle.rina_flood.specs.Network.{Side, Near, Far, other, is_side, EndState, Unmade, There, Lost, Network, link_at, waiting_at, put_ends, put_state, with_state, laid, stands, is_up, has_link, unhandled, carried, on_way, AreEndsApart, IsFree, IsNewNumber}
+use Rattle.rina_flood.specs.Network.{Side, Near, Far, other, is_side, EndState, Unmade, There, Gone, Network, link_at, waiting_at, put_ends, put_state, with_state, laid, stands, is_up, has_link, unhandled, carried, on_way, AreEndsApart, IsFree, IsNewNumber}
 use Rattle.rina_flood.specs.Laws.{Owes}
 use Rattle.rina_flood.proofs.Holds.{Holds}
 use Rattle.rina_flood.proofs.Places.{nothing_in, direction_case, direction_itself, side_itself, same_direction, flat_from, flat_in}
@@ -95,13 +95,13 @@ module _ (n : Network) (ends : ℕ → Side → ℕ) (states : ℕ → Side → 
 
 module _ (n : Network) (link : ℕ) (side : Side) where
   abbrev lost_states : ℕ → Side → EndState
-  lost_states = put_state link side Lost n.states
+  lost_states = put_state link side Gone n.states
 
   was_there : (l : ℕ) (d : Side) (number : ℕ) → lost_states l d ≡ There number → n.states l d ≡ There number
-  was_there l d number = direction_case (λ (s : EndState). s ≡ There number → n.states l d ≡ There number) link side l d Lost (n.states l d) (λ a b e. absurd (cc)) (λ apart e. e)
+  was_there l d number = direction_case (λ (s : EndState). s ≡ There number → n.states l d ≡ There number) link side l d Gone (n.states l d) (λ a b e. absurd (cc)) (λ apart e. e)
 
   pub lost_follows : (l : ℕ) (d : Side) (m : ManagementMessage) → Contains (n.sent l d ++ waiting_at (lost_states l d) (n.agents (n.ends l d)).agenda) m → Contains (unhandled n l d) m
-  lost_follows l d m = direction_case (λ (s : EndState). Contains (n.sent l d ++ waiting_at s (n.agents (n.ends l d)).agenda) m → Contains (unhandled n l d) m) link side l d Lost (n.states l d)
+  lost_follows l d m = direction_case (λ (s : EndState). Contains (n.sent l d ++ waiting_at s (n.agents (n.ends l d)).agenda) m → Contains (unhandled n l d) m) link side l d Gone (n.states l d)
       (λ a b e. elim (Contains-append_cases (n.sent l d) [] m e) [
         | inl flies ↦ Contains-append_left (n.sent l d) (waiting_at (n.states l d) (n.agents (n.ends l d)).agenda) m flies
         | inr none ↦ absurd (nothing_in m none)
@@ -109,15 +109,15 @@ module _ (n : Network) (link : ℕ) (side : Side) where
       (λ apart e. e)
 
   lost_up : (l : ℕ) (d : Side) → was_up (link_at (lost_states l d) (n.agents (n.ends l d)).links) ≡ true → is_up n l d ≡ true
-  lost_up l d = direction_case (λ (s : EndState). was_up (link_at s (n.agents (n.ends l d)).links) ≡ true → is_up n l d ≡ true) link side l d Lost (n.states l d) (λ a b u. absurd (both_ways true (sym u) refl)) (λ apart u. u)
+  lost_up l d = direction_case (λ (s : EndState). was_up (link_at s (n.agents (n.ends l d)).links) ≡ true → is_up n l d ≡ true) link side l d Gone (n.states l d) (λ a b u. absurd (both_ways true (sym u) refl)) (λ apart u. u)
 
   lost_has : (l : ℕ) (d : Side) → is_some (link_at (lost_states l d) (n.agents (n.ends l d)).links) ≡ true → has_link n l d ≡ true
-  lost_has l d = direction_case (λ (s : EndState). is_some (link_at s (n.agents (n.ends l d)).links) ≡ true → has_link n l d ≡ true) link side l d Lost (n.states l d) (λ a b u. absurd (both_ways true (sym u) refl)) (λ apart u. u)
+  lost_has l d = direction_case (λ (s : EndState). is_some (link_at s (n.agents (n.ends l d)).links) ≡ true → has_link n l d ≡ true) link side l d Gone (n.states l d) (λ a b u. absurd (both_ways true (sym u) refl)) (λ apart u. u)
 
   lost_remains : (l : ℕ) (d : Side) (m : ManagementMessage) → was_up (link_at (lost_states l d) (n.agents (n.ends l d)).links) ≡ true → Contains (unhandled n l d) m → Contains (n.sent l d ++ waiting_at (lost_states l d) (n.agents (n.ends l d)).agenda) m
-  lost_remains l d m = direction_case (λ (s : EndState). was_up (link_at s (n.agents (n.ends l d)).links) ≡ true → Contains (unhandled n l d) m → Contains (n.sent l d ++ waiting_at s (n.agents (n.ends l d)).agenda) m) link side l d Lost (n.states l d) (λ a b u e. absurd (both_ways true (sym u) refl)) (λ apart u e. e)
+  lost_remains l d m = direction_case (λ (s : EndState). was_up (link_at s (n.agents (n.ends l d)).links) ≡ true → Contains (unhandled n l d) m → Contains (n.sent l d ++ waiting_at s (n.agents (n.ends l d)).agenda) m) link side l d Gone (n.states l d) (λ a b u e. absurd (both_ways true (sym u) refl)) (λ apart u e. e)
 
-  pub close_holds : Holds n → Holds (with_state n link side Lost)
+  pub close_holds : Holds n → Holds (with_state n link side Gone)
   close_holds h = restated_holds n n.ends lost_states (record {
     laid = λ l d k e number same p q. h.laid.laid l d k e number same (was_there l d number p) (was_there k e number q);
     fit = h.laid.fit;

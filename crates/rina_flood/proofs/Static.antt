@@ -27,7 +27,7 @@ use Rattle.rina_member.proofs.Items.{not_link}
 use Rattle.rina_member.proofs.Laying.{own_is, same_member, small_address}
 use Rattle.rina_member.proofs.Lists.{at_place, is_there, made_of}
 use Rattle.rina_member.proofs.Starting.{start_of}
-use Rattle.rina_flood.specs.Network.{Side, Near, Far, other, EndState, Unmade, There, Lost, Network, link_at, AreApart, IsStart, KnowsAll, KnowsNothing, has_link}
+use Rattle.rina_flood.specs.Network.{Side, Near, Far, other, EndState, Unmade, There, Gone, Network, link_at, AreApart, IsStart, KnowsAll, KnowsNothing, has_link}
 use Rattle.rina_flood.specs.Static.{AreEnds, AreFirst, LinkEnd, address_in, end_address, end_state, end_place, nobody, first_network, or_nobody, place_at}
 use Rattle.rina_flood.specs.Members.{HasNoMember}
 use Rattle.rina_flood.proofs.Places.{in_first, in_rest, position_cons}
@@ -128,12 +128,12 @@ linked_begun false links k has = absurd (both_ways true (sym has) refl)
 linked_at : (enrolled : Bool) (links : List Managed) (s : EndState) → is_some (link_at s (cond enrolled links [])) ≡ true → enrolled ≡ true
 linked_at enrolled links Unmade has = absurd (both_ways true (sym has) refl)
 linked_at enrolled links (There k) has = linked_begun enrolled links k has
-linked_at enrolled links Lost has = absurd (both_ways true (sym has) refl)
+linked_at enrolled links Gone has = absurd (both_ways true (sym has) refl)
 
 pub no_link_at : (s : EndState) → is_some (link_at s []) ≡ true → ⊥
 no_link_at Unmade has = both_ways true (sym has) refl
 no_link_at (There k) has = both_ways true (sym has) refl
-no_link_at Lost has = both_ways true (sym has) refl
+no_link_at Gone has = both_ways true (sym has) refl
 
 begun_knows : (enrolled : Bool) (told : List Item) → ((cond enrolled (taken_all [] told) [] ≡ taken_all [] told) × (cond enrolled told [] ≡ told)) ⊎ ((cond enrolled (taken_all [] told) [] ≡ []) × (cond enrolled told [] ≡ []))
 begun_knows true told = inl (refl, refl)

@@ -23,7 +23,7 @@ use Rattle.rina_agent.specs.Items.{made, stated, took, own_item}
 use Rattle.rina_agent.specs.Neighbours.{link_key, link_state, member_key}
 use Rattle.rina_agent.specs.Rows.{was_up, dropped, joined_link, joining, joining_link}
 use Rattle.rina_member.proofs.Items.{not_link}
-use Rattle.rina_flood.specs.Network.{Side, Near, Far, other, EndState, Unmade, There, Lost, Network, link_at, put_agent, put_sent, carried, item_in, called, news, last_state, AreApart, Row, Make, Put, Take, Handle, Lose, Drop, Know, Pass, happens, May, IsRun, after_rows, IsStart, is_up, joins, Enrol, Claim, KnowsAll, KnowsNothing, is_enrolled}
+use Rattle.rina_flood.specs.Network.{Side, Near, Far, other, EndState, Unmade, There, Gone, Network, link_at, put_agent, put_sent, carried, item_in, called, news, last_state, AreApart, Row, Make, Put, Take, Handle, Lose, Leave, Drop, Know, Pass, happens, May, IsRun, after_rows, IsStart, is_up, joins, Enrol, Claim, KnowsAll, KnowsNothing, is_enrolled}
 use Rattle.rina_flood.specs.Laws.{LeavesLinkState, AllLeaveLinkState, TellsLinks, TellsNone, IsQuietWalk, QuietTellsLinks}
 use Rattle.rina_flood.proofs.Calls.{at_place, at_itself}
 use Rattle.rina_flood.proofs.Agendas.{lost_fewer}
@@ -215,6 +215,7 @@ module _ (address : ℕ) (greatest : Greatest) (fits : address < 2 ^ 32) where
         lose_told n address i number (was_up (find (is_numbered number) (n.agents i).links)) (spent 1 (n.agents i).last_count) h greatest s.alone fits near_fits may.1 refl may.1 s.told,
         lose_alone n address i number (was_up (find (is_numbered number) (n.agents i).links)) h fits near_fits s.alone,
       )
+  row_told n (Leave link side number) may leaves s = (s.told, s.alone)
   row_told n (Drop link side left) may leaves s = (s.told, s.alone)
   row_told n (Enrol link side number i j member node) may leaves s =
       let a = n.agents i in
@@ -282,6 +283,7 @@ made_stays n (Take link side number m) x e = Contains-append_left n.made [] x e
 made_stays n (Handle link side number (ToNeighbour m) rest) x e = Contains-append_left n.made (news (n.agents (n.ends link (other side))) (Handles n.now number m)) x e
 made_stays n (Handle link side number (ToMember m) rest) x e = e
 made_stays n (Lose link side number) x e = Contains-append_left n.made (news (n.agents (n.ends link side)) (Loses n.now number)) x e
+made_stays n (Leave link side number) x e = e
 made_stays n (Drop link side left) x e = e
 made_stays n (Enrol link side number i j member node) x e = Contains-append_left n.made [] x e
 made_stays n (Claim link side number) x e = Contains-append_left n.made [] x e
@@ -300,7 +302,7 @@ up_both n l Far e = (let both = and_parts _ _ e in both.1)
 none_up : (s : EndState) (links : List Link) → ((k : ℕ) → was_up (find (is_numbered k) links) ≡ false) → was_up (link_at s links) ≡ false
 none_up Unmade links down = refl
 none_up (There k) links down = down k
-none_up Lost links down = refl
+none_up Gone links down = refl
 
 not_not : (n : Network) (i j : ℕ) (steps : List (ℕ × Side)) → (steps ≡ [] → ⊥) → IsQuietWalk n i steps j → TellsNot i (n.agents i) n.made → ⊥
 not_not n i j [] some walk t = some refl

@@ -10,7 +10,7 @@ use Rattle.rina_agent.specs.Enrolments.{is_numbered}
 use Rattle.rina_agent.specs.Items.{took}
 use Rattle.rina_agent.specs.Neighbours.{link_key, link_state}
 use Rattle.rina_agent.specs.Rows.{handled, was_up}
-use Rattle.rina_flood.specs.Network.{Side, Near, Far, other, EndState, There, Lost, Network, Row, Make, Know, Enrol, Claim, Lose, joins, stands, on_way, happens, May, IsRun, after_rows, IsStart}
+use Rattle.rina_flood.specs.Network.{Side, Near, Far, other, Network, Row, Make, Know, Enrol, Claim, Lose, joins, has_link, stands, on_way, happens, May, IsRun, after_rows, IsStart}
 
 -- an item of the same key that is at least as new stands in a list
 pub record IsComing (items : List Item) (x : Item) : Type 0 where
@@ -101,11 +101,7 @@ abbrev pub QuietTellsLinks : Type 0
 QuietTellsLinks = (n : Network) (told : List Item) (rows : List Row) (i j : ℕ) (steps : List (ℕ × Side)) → IsStart n told → IsRun n rows → i < 2 ^ 32 → TellsLinks n i ⊎ (TellsNone n i × (steps ≡ [] → ⊥)) → AllLeaveLinkState i rows
     → IsQuietWalk (after_rows n rows) i steps j → value_at ((after_rows n rows).agents j).items (link_key i) ≡ Some (link_state None ((after_rows n rows).agents i).links)
 
--- a member has no link of a number, or that is the number of an end there
-abbrev pub IsNumberGone : Network → ℕ → ℕ → Type 0
-IsNumberGone n i number = (find (is_numbered number) (n.agents i).links ≡ None) ⊎ ((l : ℕ) × (d : Side) × (n.ends l d ≡ i) × (n.states l d ≡ There number))
-
--- a lost end is lost from then on, and its member has no link of the number that it had, until that is the number of another end there
+-- a lost link is no link of its member from then on, whichever numbers other links get
 abbrev pub LostIsGone : Type 0
 LostIsGone = (n : Network) (told : List Item) (before rows : List Row) (l : ℕ) (d : Side) (number : ℕ) → IsStart n told → IsRun n before → May (after_rows n before) (Lose l d number) → IsRun (happens (after_rows n before) (Lose l d number)) rows
-    → ((after_rows (happens (after_rows n before) (Lose l d number)) rows).states l d ≡ Lost) × IsNumberGone (after_rows (happens (after_rows n before) (Lose l d number)) rows) ((after_rows n before).ends l d) number
+    → has_link (after_rows (happens (after_rows n before) (Lose l d number)) rows) l d ≡ false

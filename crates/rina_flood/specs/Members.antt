@@ -20,7 +20,7 @@ use Rattle.rina_member.specs.Knowing.{IsLaidOut, SameEdges, all_claims}
 use Rattle.rina_member.specs.Managements.{entry_of, takes_item}
 use Rattle.rina_member.specs.Short.{IsShort}
 use Rattle.rina_member.specs.Start.{HasLinksIfStatic, start_items}
-use Rattle.rina_flood.specs.Network.{Side, Near, other, EndState, Unmade, There, Lost, Network, Row, link_at, waiting_at, MayLose, IsRun, after_rows, IsStart}
+use Rattle.rina_flood.specs.Network.{Side, Near, other, EndState, Unmade, There, Gone, Network, Row, link_at, waiting_at, MayLose, IsRun, after_rows, IsStart}
 use Rattle.rina_flood.specs.Laws.{IsStatic, TellsLinks, TellsNone}
 use Rattle.rina_flood.specs.Static.{AreEnds, AreFirst, AreOfDif, LinkEnd, end_place}
 
@@ -137,7 +137,8 @@ pub record GoesOn (old new : MembersSeen) : Type 0 where
   pub sent : AreSame old.sent new.sent
   pub got : AreSame old.got new.got
 
--- the member at an end of a link that is there loses it. The other end stays as it is: it may still be there
+-- the member at an end of a link that is there loses it, and the end is gone, or keeps its number, so that no other link gets it. The other end
+-- stays as it is: it may still be there
 pub record LosesLinkAt (old new : MembersSeen) : Type 0 where
   pub link : ℕ
   pub side : Side
@@ -150,7 +151,7 @@ pub record LosesLinkAt (old new : MembersSeen) : Type 0 where
   pub after : Agent
   pub loses : lost agent old.now number ≡ Ok after
   pub members : new.members ≡ old.members
-  pub ends : new.ends ≡ slice_set old.ends (end_place link side) (record end { state = Lost })
+  pub ends : (new.ends ≡ old.ends) ⊎ (new.ends ≡ slice_set old.ends (end_place link side) (record end { state = Gone }))
   pub now : new.now ≡ old.now
   pub agents : new.agents ≡ slice_set old.agents end.member after
   pub sent : AreSame old.sent new.sent

@@ -1,6 +1,6 @@
 -- A network of members: the management of each, the links between them, and what happens to it, row by row. Each row is one call of
 -- one member, or what the connections between them do.
-use Rattle.std.specs.Prelude.{◌≡◌, ℕ, ◌+◌, ◌≤◌, ◌<◌, ◌^◌, ◌⊎◌, Bool, true, false, ◌&&◌, ◌||◌, ◌==◌, List, ◌∷◌, ◌++◌, find, flat_map, Option, Some, None, is_some, Contains, if◌then◌else◌, []}
+use Rattle.std.specs.Prelude.{◌≡◌, ℕ, ◌+◌, ◌≤◌, ◌<◌, ◌^◌, ◌⊎◌, Bool, true, false, ◌&&◌, ◌||◌, not, ◌==◌, List, ◌∷◌, ◌++◌, find, flat_map, Option, Some, None, is_some, Contains, if◌then◌else◌, []}
 use Rattle.rina_alloc.specs.declared.message.FlowMessage.{FlowMessage}
 use Rattle.rina_enrol.specs.declared.message.LinkMessage.{LinkMessage}
 use Rattle.rina_enrol.specs.declared.message.LinkMessage.TheVariants as messages
@@ -39,18 +39,15 @@ is_side Far Far = true
 abbrev pub is_direction : ℕ → Side → ℕ → Side → Bool
 is_direction link side l d = (l == link) && is_side side d
 
--- An end of a link is not made yet; it is there, with the number that its member has for the link; or it is lost
+-- An end of a link is not made yet; it is there, with the number that its member has for the link; or it is gone: its member lost the link,
+-- and the number may be that of another
 pub data EndState : Type 0 where
   Unmade : EndState
   There : (number : ℕ) → EndState
-  Lost : EndState
-
-abbrev pub is_lost : EndState → Bool
-is_lost Lost = true
-is_lost other = false
+  Gone : EndState
 
 -- Members are named by their addresses. A link has a member at each end, and each of the two has a number of its own for it while its
--- end is there. The number of a lost end may be that of another link later. A link of which no end was made yet is free.
+-- end is there. A link of which no end was made yet is free.
 pub record Network : Type 0 where
   -- the tick
   pub now : ℕ
@@ -87,6 +84,15 @@ joins n l = is_up n l Near && is_up n l Far
 -- the member at one end has the link: the end is made, and not lost
 abbrev pub has_link : Network → ℕ → Side → Bool
 has_link n l d = is_some (link_at (n.states l d) (n.agents (n.ends l d)).links)
+
+-- the member at an end that was made has lost the link
+abbrev pub has_lost : EndState → List Link → Bool
+has_lost Unmade links = false
+has_lost (There number) links = not (is_some (find (is_numbered number) links))
+has_lost Gone links = true
+
+abbrev pub is_lost : Network → ℕ → Side → Bool
+is_lost n l d = has_lost (n.states l d) (n.agents (n.ends l d)).links
 
 -- a direction stands: the sender's end is up, and the member at the other end has the link
 abbrev pub stands : Network → ℕ → Side → Bool
@@ -174,8 +180,9 @@ pub data Row : Type 0 where
   Take : (link : ℕ) (side : Side) (number : ℕ) (m : ManagementMessage) → Row
   -- the first message of a direction is handled at its other end
   Handle : (link : ℕ) (side : Side) (number : ℕ) (m : ManagementMessage) (rest : List ManagementMessage) → Row
-  -- the member at one end of a link loses it
+  -- the member at one end of a link loses it; and the end is gone, so that its number may be that of another link
   Lose : (link : ℕ) (side : Side) (number : ℕ) → Row
+  Leave : (link : ℕ) (side : Side) (number : ℕ) → Row
   -- some messages that were sent on a link that an end has lost are lost
   Drop : (link : ℕ) (side : Side) (left : List ManagementMessage) → Row
   -- member i asks for an enrolment on a new link to member j, and its end is made; the end of member j is made, when it gets that link
@@ -215,7 +222,7 @@ known n x = record n {
   offered = λ i. n.offered i ++ (if is_enrolled (n.agents i) then x ∷ [] else []);
 }
 
--- an end of a link is lost, or made
+-- an end of a link is gone, or made
 abbrev pub with_state : Network → ℕ → Side → EndState → Network
 with_state n link side state = record n { states = put_state link side state n.states }
 
@@ -228,7 +235,8 @@ happens n (Make i key value) = called n i (Makes n.now key value)
 happens n (Put link side number m) = record n { agents = put_agent (n.ends link side) (with_message (n.agents (n.ends link side)) number m) n.agents }
 happens n (Take link side number m) = called (record n { sent = put_sent link side (n.sent link side ++ m ∷ []) n.sent }) (n.ends link side) (Takes number)
 happens n (Handle link side number m rest) = comes m (record n { sent = put_sent link side rest n.sent }) (n.ends link (other side)) number
-happens n (Lose link side number) = with_state (called n (n.ends link side) (Loses n.now number)) link side Lost
+happens n (Lose link side number) = called n (n.ends link side) (Loses n.now number)
+happens n (Leave link side number) = with_state n link side Gone
 happens n (Drop link side left) = record n { sent = put_sent link side left n.sent }
 happens n (Enrol link side number i j member node) = called (laid n link side number i j) i (Enrols number member node)
 happens n (Claim link side number) = called (with_state n link side (There number)) (n.ends link side) (Claims number)
@@ -258,15 +266,16 @@ abbrev pub MayLose : Agent → ℕ → Type 0
 MayLose a number = was_up (find (is_numbered number) a.links) ≡ true → spent 1 a.last_count ≡ None
 
 -- When a row may happen: an end at which it happens is there, a call is not refused, the message that is taken or handled is the first one,
--- a connection loses messages only where an end has lost the link, and an end that is made has a new number. The end that is made second
--- is so before the first is up
+-- an end is gone only where its member lost the link, a connection loses messages only where an end has lost the link, and an end that is made
+-- has a new number. The end that is made second is so before the first is up
 abbrev pub May : Network → Row → Type 0
 May n (Make i key value) = spent 1 (n.agents i).last_count ≡ None
 May n (Put link side number m) = n.states link side ≡ There number
 May n (Take link side number m) = (n.states link side ≡ There number) × (first_on number (n.agents (n.ends link side)).agenda ≡ Some (record { link = number; message = m }))
 May n (Handle link side number m rest) = (n.states link (other side) ≡ There number) × (n.sent link side ≡ m ∷ rest)
 May n (Lose link side number) = (n.states link side ≡ There number) × MayLose (n.agents (n.ends link side)) number
-May n (Drop link side left) = ((is_lost (n.states link Near) || is_lost (n.states link Far)) ≡ true) × ((m : ManagementMessage) → Contains left m → Contains (n.sent link side) m)
+May n (Leave link side number) = (n.states link side ≡ There number) × (find (is_numbered number) (n.agents (n.ends link side)).links ≡ None)
+May n (Drop link side left) = ((is_lost n link Near || is_lost n link Far) ≡ true) × ((m : ManagementMessage) → Contains left m → Contains (n.sent link side) m)
 May n (Enrol link side number i j member node) = IsFree n link × IsNewNumber n i number × (i < 2 ^ 32) × (j < 2 ^ 32) × (spent 1 (n.agents i).last_invoke ≡ None)
 May n (Claim link side number) = (n.states link side ≡ Unmade) × IsNewNumber n (n.ends link side) number × (is_up n link (other side) ≡ false)
 May n (Know x) = MayBeKnown n x

@@ -34,8 +34,8 @@ pub fn floods_end()
     ensures not_back { NotBack }
 {}
 
-/// A lost end of a link is lost for good, and once all is quiet nobody that links join to its member keeps a link state that names
-/// that link.
+/// A lost link is gone for good, whatever other links get its number, and once all is quiet nobody that links join to its ends keeps a
+/// link state that names it.
 pub fn lost_links_are_told()
     ensures quiet { QuietTellsLinks }
     ensures gone { LostIsGone }
