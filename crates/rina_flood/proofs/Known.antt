@@ -72,7 +72,7 @@ module _ (n : Network) (x : Item) where
   same_way : (l : ℕ) (d : Side) → on_way (known n x) l d ≡ on_way n l d
   same_way l d = ap (λ (ms : List ManagementMessage). flat_map carried ms) (same_unhandled l d)
 
-  same_up : (l : ℕ) (d : Side) → is_up (known n x) l d ≡ is_up n l d
+  pub same_up : (l : ℕ) (d : Side) → is_up (known n x) l d ≡ is_up n l d
   same_up l d = ap (λ (ls : List Link). was_up (link_at (n.states l d) ls)) (knower_links (is_enrolled (n.agents (n.ends l d))) x (n.agents (n.ends l d)))
 
   same_has : (l : ℕ) (d : Side) → has_link (known n x) l d ≡ has_link n l d

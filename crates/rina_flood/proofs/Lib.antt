@@ -1,4 +1,5 @@
 pub mod Agendas
+pub mod Ahead
 pub mod All
 pub mod Bounds
 pub mod Calls
@@ -33,5 +34,6 @@ pub mod Static
 pub mod Stating
 pub mod Steps
 pub mod Stopping
+pub mod Strays
 pub mod Telling
 pub mod Told

@@ -15,6 +15,7 @@ use Rattle.rina_agent.specs.declared.agent.Agent.{Agent}
 use Rattle.rina_agent.specs.declared.link.Link.{Link}
 use Rattle.rina_agent.specs.declared.message.ManagementMessage.{ManagementMessage}
 use Rattle.rina_agent.specs.declared.message.ManagementMessage.TheVariants.{ToNeighbour, ToMember}
+use Rattle.rina_agent.specs.declared.message.Waiting.{Waiting}
 use Rattle.rina_agent.specs.declared.state.MemberState.TheVariants.{Enrolled}
 use Rattle.rina_agent.specs.Agenda.{first_on, waiting_on, without_first}
 use Rattle.rina_agent.specs.Counts.{spent, unless}
@@ -37,7 +38,8 @@ use Rattle.rina_flood.specs.Static.{LinkEnd, IsOfDif, AreOfDif, agent_at, end_ad
 use Rattle.rina_flood.specs.Laws.{IsStatic, MakesNoLink, TellsLinks, TellsNone}
 use Rattle.rina_flood.specs.Members.{Adds, AreSame, AreShortTexts, AreTexts, ClaimsLink, IsAgentAt, IsUnused, JoinsLink, HasNoMember, HandlesMessage, IsNetworkOf, IsRunOf, IsShortText, IsText, LosesLinkAt, MakesEntryAt, MembersSeen, OffersMessage, StartsWith, TakesEntry, GoesOn}
 use Rattle.rina_flood.proofs.Ranges.{message_fits}
-use Rattle.rina_flood.proofs.All.{run_holds}
+use Rattle.rina_flood.proofs.Ahead.{IsAhead, rows_ahead}
+use Rattle.rina_flood.proofs.All.{begin_holds, run_holds}
 use Rattle.rina_flood.proofs.Calls.{at_itself, at_others}
 use Rattle.rina_flood.proofs.Entries.{entries_are_one}
 use Rattle.rina_flood.proofs.Known.{knower_links}
@@ -46,6 +48,7 @@ use Rattle.rina_flood.proofs.Places.{drop_at, past_all, in_first, direction_case
 use Rattle.rina_flood.proofs.Settles.{Greatest}
 use Rattle.rina_flood.proofs.Static.{address_is, found_at, found_place, no_link_at, none_at, place_is, network_fresh, network_starts, places_apart}
 use Rattle.rina_flood.proofs.Stating.{others_tell_none, static_tells}
+use Rattle.rina_flood.proofs.Strays.{IsLinked, no_strays, rows_linked}
 use Rattle.rina_flood.proofs.States.{ends_here, ends_other, put_here, put_other, sides_apart}
 
 -- Rows at the end of a run
@@ -117,6 +120,7 @@ module _ (is_static : Bool) (plans : List LinkPlan) (s : MembersSeen) (r : IsRun
         starts = subst Q (sym same) r.starts;
         fresh = r.fresh;
         tells = λ still m among. r.tells still m (subst (T m) same among);
+        free = r.free;
         tells_none = λ dynamic m among. r.tells_none dynamic m (subst (T m) same among);
         run = run_more r.start r.rows row r.run may;
         of = of_more r.rows row r.of of;
@@ -173,6 +177,7 @@ same_texts is_static plans s sent got r same_sent same_got = record {
   starts = r.starts;
   fresh = r.fresh;
   tells = r.tells;
+  free = r.free;
   tells_none = r.tells_none;
   run = r.run;
   of = r.of;
@@ -622,28 +627,18 @@ module _ (is_static : Bool) (plans : List LinkPlan) (s : MembersSeen) (r : IsRun
       let stands = r.is.ends l d e x.0 is_o x.1 in
       u.ends (end_place l d) e is_o (place_is s.members plans r.laid_out e.member place x.0 m x.1 is_m (sym stands.0 ∙ at)) (sym stands.1 ∙ has)
 
+  -- at the start no message waits
+  first_linked : (i : ℕ) → IsLinked (r.start.agents i)
+  first_linked i w e = (let P : List Waiting → Type 0 = λ ws. Contains ws w in absurd (in_none w (subst P (r.starts.agendas i) e)))
+
   new_number : (place number : ℕ) (m : Member) (a : Agent) → slice_get s.members place ≡ Some m → IsUnused s place a number → IsNewNumber (net is_static plans s r) m.addr number
   new_number place number m a is_m u =
       let is_net = r.is.agents place m a is_m u.is_agent in
       record {
         ends = λ l d at has. end_number place number m a is_m u l d (slice_get s.ends (end_place l d)) refl at has;
         links = ap (λ (c : Agent). find (is_numbered number) c.links) is_net ∙ u.links;
-        agenda = ap (λ (c : Agent). waiting_on number c.agenda) is_net ∙ u.agenda;
+        agenda = ap (λ (c : Agent). waiting_on number c.agenda) is_net ∙ no_strays a number (subst IsLinked is_net (rows_linked r.start r.rows r.run first_linked m.addr)) u.links;
       }
-
-  -- the other end of a link is not up
-  other_down : (l : ℕ) (d : Side) (o : Option LinkEnd) → slice_get s.ends (end_place l d) ≡ o → ((e : LinkEnd) (a : Agent) → IsAgentAt s l d e a → was_up (link_at e.state a.links) ≡ false) → is_up (net is_static plans s r) l d ≡ false
-  other_down l d None is_o down = ap (λ (x : EndState). was_up (link_at x ((net is_static plans s r).agents ((net is_static plans s r).ends l d)).links)) (r.is.unmade l d is_o)
-  other_down l d (Some e) is_o down =
-      let n = net is_static plans s r in
-      let aligned = r.is.aligned in
-      let within = r.is.within (end_place l d) e is_o in
-      let a = there s.agents e.member (omega (arith, aligned, within)) in
-      let at = at_end is_static plans s r l d e a.0 (record { is_end = is_o; is_agent = a.1 }) in
-      ap (λ (x : EndState). was_up (link_at x (n.agents (n.ends l d)).links)) at.3
-      ∙ ap (λ (i : ℕ). was_up (link_at e.state (n.agents i).links)) at.2
-      ∙ ap (λ (c : Agent). was_up (link_at e.state c.links)) at.4
-      ∙ down e a.0 (record { is_end = is_o; is_agent = a.1 })
 
   -- a link behind all is free
   is_free : (link : ℕ) → length s.ends ≡ end_place link Near → ((d : Side) → s.sent (end_place link d) ≡ []) → IsFree (net is_static plans s r) link
@@ -682,6 +677,15 @@ joins_run plans old new r h =
     alike_run false plans s' new (more_rows false plans old r s' (Enrol h.link Near h.number m.0.addr f.0.addr h.member h.node) refl r.short may tt (λ still. not_static false refl still)
     (laid_network (record old { agents = slice_set old.agents h.place b }) _ h.link h.number h.place h.far m.0 f.0 m.1 f.1 h.behind joined)) h.members h.ends h.now h.agents h.sent h.got
 
+-- the other end of a link that is not made at an end is not up
+ahead_of : (plans : List LinkPlan) (s : MembersSeen) (r : IsRunOf false plans s) → IsAhead (net false plans s r)
+ahead_of plans s r =
+    let told = start_items false s.members plans in
+    rows_ahead r.start r.rows (begin_holds r.start told r.starts) r.run (record {
+      unsent = λ l d e. r.starts.sent l d;
+      down = λ l d e. ap (λ (x : EndState). was_up (link_at x (r.start.agents (r.start.ends l (other d))).links)) (r.free refl l (other d));
+    })
+
 pub claims_link_run : (plans : List LinkPlan) (old new : MembersSeen) → IsRunOf false plans old → ClaimsLink old new → IsRunOf false plans new
 claims_link_run plans old new r h =
     let n = net false plans old r in
@@ -690,7 +694,7 @@ claims_link_run plans old new r h =
     let at = at_end false plans old r l d h.end h.agent (record { is_end = h.at; is_agent = h.unused.is_agent }) in
     let b : Agent = record h.agent { links = h.agent.links ++ joined_link h.number ∷ [] } in
     let new_there : IsNewNumber n (n.ends l d) h.number = subst (λ (i : ℕ). IsNewNumber n i h.number) (sym at.2) (new_number false plans old r h.end.member h.number at.0 h.agent at.1 h.unused) in
-    let may : May n (Claim l d h.number) = (at.3 ∙ h.unmade, new_there, other_down false plans old r l (other d) (slice_get old.ends (end_place l (other d))) refl h.down) in
+    let may : May n (Claim l d h.number) = (at.3 ∙ h.unmade, new_there, (ahead_of plans old r).down l d (at.3 ∙ h.unmade)) in
     let are = called_at n.agents (n.ends l d) at.0.addr h.agent b (Claims h.number) (Claims h.number) at.2 at.4 refl refl in
     let claimed = changed false plans old r h.end.member at.0 h.agent b at.1 h.unused.is_agent _ n.sent _ _ old.sent old.got are r.is.fewer r.is.sent in
     let s' : MembersSeen = record old { agents = slice_set old.agents h.end.member b; ends = slice_set old.ends (end_place l d) (record h.end { state = There h.number }) } in
@@ -731,6 +735,7 @@ start_run greatest is_static plans s h =
       starts = network_starts is_static some_rules s.members plans s.agents s.ends s.now h.laid_out h.first h.ends;
       fresh = network_fresh is_static some_rules s.members plans s.agents s.ends s.now h.laid_out h.first h.ends;
       tells = λ still m among. first_tells greatest is_static s.members plans s.agents s.ends s.now m still h.laid_out h.first among;
+      free = λ dynamic l d. ap (λ (es : List LinkEnd). end_state (slice_get es (end_place l d))) (h.bare dynamic);
       tells_none = λ dynamic m among. first_tells_none is_static s.members plans s.agents s.ends s.now m dynamic h.laid_out h.first among;
       run = tt;
       of = tt;

@@ -89,7 +89,7 @@ floods_fit out x links w e = (let r = contains_unmap (flood_on x) _ w e in subst
 items_fit : (k : ℕ) (items : List Item) → AllFit (map (item_on k) items)
 items_fit k items w e = (let r = contains_unmap (item_on k) items w e in subst (λ (u : Waiting). Fits u.message) r.2 tt)
 
-shorter : (k : ℕ) (ws : List Waiting) (w : Waiting) → Contains (without_first k ws) w → Contains ws w
+pub shorter : (k : ℕ) (ws : List Waiting) (w : Waiting) → Contains (without_first k ws) w → Contains ws w
 shorter k [] w e = e
 shorter k (v ∷ ws) w e = elim (cases_Bool (v.link == k)) [
   | inl is ↦

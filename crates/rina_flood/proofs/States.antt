@@ -108,7 +108,7 @@ module _ (n : Network) (link : ℕ) (side : Side) where
       ])
       (λ apart e. e)
 
-  lost_up : (l : ℕ) (d : Side) → was_up (link_at (lost_states l d) (n.agents (n.ends l d)).links) ≡ true → is_up n l d ≡ true
+  pub lost_up : (l : ℕ) (d : Side) → was_up (link_at (lost_states l d) (n.agents (n.ends l d)).links) ≡ true → is_up n l d ≡ true
   lost_up l d = direction_case (λ (s : EndState). was_up (link_at s (n.agents (n.ends l d)).links) ≡ true → is_up n l d ≡ true) link side l d Gone (n.states l d) (λ a b u. absurd (both_ways true (sym u) refl)) (λ apart u. u)
 
   lost_has : (l : ℕ) (d : Side) → is_some (link_at (lost_states l d) (n.agents (n.ends l d)).links) ≡ true → has_link n l d ≡ true
@@ -150,7 +150,7 @@ module _ (n : Network) (link : ℕ) (side : Side) (number : ℕ) (new : IsNewNum
       ])
       (λ apart e. e)
 
-  made_up : (l : ℕ) (d : Side) → was_up (link_at (made_states l d) (n.agents (n.ends l d)).links) ≡ true → is_up n l d ≡ true
+  pub made_up : (l : ℕ) (d : Side) → was_up (link_at (made_states l d) (n.agents (n.ends l d)).links) ≡ true → is_up n l d ≡ true
   made_up l d = direction_case (λ (s : EndState). was_up (link_at s (n.agents (n.ends l d)).links) ≡ true → is_up n l d ≡ true) link side l d (There number) (n.states l d)
       (λ a b u. (let none = no_link l d a b in absurd (both_ways true (sym (ap was_up (sym none) ∙ u)) refl)))
       (λ apart u. u)
@@ -224,7 +224,7 @@ module _ (n : Network) (link : ℕ) (side : Side) (number i j : ℕ) (free : IsF
       (λ a b. ap (λ (k : ℕ). was_up (find (is_numbered number) (n.agents k).links)) (ends_here link side i j n.ends l d a b) ∙ ap was_up new.links)
       (λ apart. ap (λ (s : EndState). was_up (link_at s (n.agents (new_ends l d)).links)) (unmade l d on))
 
-  other_link : (P : ℕ → EndState → Type 0) (l : ℕ) (d : Side) → (l ≡ link → ⊥) → P (new_ends l d) (new_states l d) → P (n.ends l d) (n.states l d)
+  pub other_link : (P : ℕ → EndState → Type 0) (l : ℕ) (d : Side) → (l ≡ link → ⊥) → P (new_ends l d) (new_states l d) → P (n.ends l d) (n.states l d)
   other_link P l d off e =
       let Q : EndState → Type 0 = λ s. P (new_ends l d) s in
       let R : ℕ → Type 0 = λ k. P k (n.states l d) in
@@ -236,7 +236,7 @@ module _ (n : Network) (link : ℕ) (side : Side) (number i j : ℕ) (free : IsF
       let R : ℕ → Type 0 = λ k. P k (n.states l d) in
       subst Q (sym (put_other link side (There number) n.states l d (λ s. off s.0))) (subst R (sym (ends_other link side i j n.ends l d off)) e)
 
-  by_link : (l : ℕ) → (l ≡ link) ⊎ (l ≡ link → ⊥)
+  pub by_link : (l : ℕ) → (l ≡ link) ⊎ (l ≡ link → ⊥)
   by_link l = elim (cases_Bool (l == link)) [
     | inl e ↦ inl (eqb-true l link e)
     | inr e ↦ inr (λ is. both_ways (l == link) e (eq-eqb l link is))
@@ -256,9 +256,11 @@ module _ (n : Network) (link : ℕ) (side : Side) (number i j : ℕ) (free : IsF
       let both = and_parts _ _ e in
       elim (by_link l) [
         | inl on ↦ absurd (both_ways (was_up (link_at (new_states l d) (n.agents (new_ends l d)).links)) (new_down l d on) both.0)
-        | inr off ↦
-            (ends_other link side i j n.ends l d off, ends_other link side i j n.ends l (other d) off,
-            and_from (is_up n l d) (has_link n l (other d)) (other_link (λ k s. was_up (link_at s (n.agents k).links) ≡ true) l d off both.0) (other_link (λ k s. is_some (link_at s (n.agents k).links) ≡ true) l (other d) off both.1))
+        | inr off ↦ (
+          ends_other link side i j n.ends l d off,
+          ends_other link side i j n.ends l (other d) off,
+          and_from (is_up n l d) (has_link n l (other d)) (other_link (λ k s. was_up (link_at s (n.agents k).links) ≡ true) l d off both.0) (other_link (λ k s. is_some (link_at s (n.agents k).links) ≡ true) l (other d) off both.1),
+        )
       ]
 
   new_remains : (l : ℕ) (d : Side) (m : ManagementMessage) → stands (laid n link side number i j) l d ≡ true → Contains (unhandled n l d) m → Contains (n.sent l d ++ waiting_at (new_states l d) (n.agents (new_ends l d)).agenda) m

@@ -79,7 +79,7 @@ module _ (n : Network) (address : ℕ) (greatest : Greatest) (fits : address < 2
   made_told items text t = put_case (λ (c : Agent). HasTold address c (n.made ++ its_state ∷ [])) address i b (n.agents address)
       (λ same.
       let Q : ℕ → Type 0 = λ j. (spent 1 (n.agents j).last_count ≡ None) → (b.items ≡ taken (n.agents j).items (own_item (n.agents j) n.now (link_key (n.agents j).address) (Some (link_state out (n.agents j).links)))) → (link_state None b.links ≡ link_state out (n.agents j).links)
-          → Tells address b (n.made ++ own_item (n.agents j) n.now (link_key (n.agents j).address) (Some (link_state out (n.agents j).links)) ∷ []) in
+      → Tells address b (n.made ++ own_item (n.agents j) n.now (link_key (n.agents j).address) (Some (link_state out (n.agents j).links)) ∷ []) in
       inl (subst Q same (λ m is says. stated_tells n address out h greatest alone m b is says) may items text))
       (λ apart. told_more address (n.agents address) n.made (n.made ++ its_state ∷ []) (made_fewer n.made its_state address (other_key n address i h fits near_fits apart)) t)
 

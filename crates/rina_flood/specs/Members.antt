@@ -83,8 +83,8 @@ pub record IsNetworkOf (s : MembersSeen) (n : Network) : Type 0 where
   pub sent : (l : ℕ) (d : Side) → AreTexts (n.sent l d) (drop (length (s.got (end_place l (other d)))) (s.sent (end_place l d)))
 
 -- the members are laid out, what stands is the network of a run from the start of the DIF, so that all laws of flooding hold of it, and
--- what was offered are short messages. In a static DIF each member told its links from the start, and no link is made; in any other nobody told a link
--- at the start
+-- what was offered are short messages. In a static DIF each member told its links from the start, and no link is made; in any other there was
+-- no link at the start, and nobody told one
 pub record IsRunOf (is_static : Bool) (plans : List LinkPlan) (s : MembersSeen) : Type 0 where
   pub laid_out : IsLaidOut s.members plans
   pub start : Network
@@ -92,6 +92,7 @@ pub record IsRunOf (is_static : Bool) (plans : List LinkPlan) (s : MembersSeen) 
   pub starts : IsStart start (start_items is_static s.members plans)
   pub fresh : (i : ℕ) → ((start.agents i).last_count ≡ 0) × ((start.agents i).last_invoke ≡ 0)
   pub tells : is_static ≡ true → (m : Member) → Contains s.members m → TellsLinks start m.addr
+  pub free : is_static ≡ false → (l : ℕ) (d : Side) → start.states l d ≡ Unmade
   pub tells_none : is_static ≡ false → (m : Member) → Contains s.members m → TellsNone start m.addr
   pub run : IsRun start rows
   pub of : AreOfDif rows
@@ -157,12 +158,11 @@ pub record LosesLinkAt (old new : MembersSeen) : Type 0 where
   pub sent : AreSame old.sent new.sent
   pub got : AreSame old.got new.got
 
--- a member at a place may have a number for a new link: no end there has it, nor has a link of it, and no message waits for it
+-- a member at a place may have a number for a new link: no end there has it, nor has a link of it. So no message waits for it
 pub record IsUnused (s : MembersSeen) (place : ℕ) (agent : Agent) (number : ℕ) : Type 0 where
   pub is_agent : slice_get s.agents place ≡ Some agent
   pub ends : (k : ℕ) (e : LinkEnd) → slice_get s.ends k ≡ Some e → e.member ≡ place → e.state ≡ There number → ⊥
   pub links : find (is_numbered number) agent.links ≡ None
-  pub agenda : waiting_on number agent.agenda ≡ []
 
 -- the member at a place asks for an enrolment at the member at another, on a new link: CONNECT waits for it. The two ends of the link stand
 -- behind those that stood, the near one with its number, the far one not made; nothing was offered there
@@ -186,7 +186,7 @@ pub record JoinsLink (old new : MembersSeen) : Type 0 where
   pub sent : AreSame old.sent new.sent
   pub got : AreSame old.got new.got
 
--- the member at an end of a link that is not made yet gets the link: the end is made, with a number. The other end is not up
+-- the member at an end of a link that is not made yet gets the link: the end is made, with a number
 pub record ClaimsLink (old new : MembersSeen) : Type 0 where
   pub link : ℕ
   pub side : Side
@@ -194,7 +194,6 @@ pub record ClaimsLink (old new : MembersSeen) : Type 0 where
   pub agent : Agent
   pub at : slice_get old.ends (end_place link side) ≡ Some end
   pub unmade : end.state ≡ Unmade
-  pub down : (e : LinkEnd) (a : Agent) → IsAgentAt old link (other side) e a → was_up (link_at e.state a.links) ≡ false
   pub number : ℕ
   pub unused : IsUnused old end.member agent number
   pub members : new.members ≡ old.members

@@ -265,12 +265,12 @@ pub record MayBeKnown (n : Network) (x : Item) : Type 0 where
 abbrev pub MayLose : Agent → ℕ → Type 0
 MayLose a number = was_up (find (is_numbered number) a.links) ≡ true → spent 1 a.last_count ≡ None
 
--- When a row may happen: an end at which it happens is there, a call is not refused, the message that is taken or handled is the first one,
--- an end is gone only where its member lost the link, a connection loses messages only where an end has lost the link, and an end that is made
--- has a new number. The end that is made second is so before the first is up
+-- When a row may happen: an end at which it happens is there, a message about a flow is put on a link that its member has, a call is not
+-- refused, the message that is taken or handled is the first one, an end is gone only where its member lost the link, a connection loses
+-- messages only where an end has lost the link, and an end that is made has a new number. The end that is made second is so before the first is up
 abbrev pub May : Network → Row → Type 0
 May n (Make i key value) = spent 1 (n.agents i).last_count ≡ None
-May n (Put link side number m) = n.states link side ≡ There number
+May n (Put link side number m) = (n.states link side ≡ There number) × (is_some (find (is_numbered number) (n.agents (n.ends link side)).links) ≡ true)
 May n (Take link side number m) = (n.states link side ≡ There number) × (first_on number (n.agents (n.ends link side)).agenda ≡ Some (record { link = number; message = m }))
 May n (Handle link side number m rest) = (n.states link (other side) ≡ There number) × (n.sent link side ≡ m ∷ rest)
 May n (Lose link side number) = (n.states link side ≡ There number) × MayLose (n.agents (n.ends link side)) number
