@@ -36,7 +36,7 @@ use Rattle.rina_dif_law.specs.Incoming.{arrived, found, joined_by}
 use Rattle.rina_dif_law.proofs.Forgot.{found_got}
 use Rattle.rina_dif_law.proofs.Own.{direction_in}
 use Rattle.rina_flood.specs.Members.{IsRunOf, LosesLinkAt, MembersSeen}
-use Rattle.rina_flood.specs.Network.{Side, Near, Far}
+use Rattle.rina_flood.specs.Network.{Side, Near, Far, There}
 use Rattle.rina_flood.specs.Static.{LinkEnd, end_place}
 use Rattle.rina_flood.proofs.Members.{goes_on_run, loses_run, makes_run, takes_run}
 use Rattle.rina_iface.specs.declared.ends.End.{End}
@@ -167,8 +167,8 @@ lost_floods d at number m p g g' place link managed each is_m is_p is_g stands l
     let shown : slice_get (map process_of d.processes) at ≡ Some (process_of p) = slice_get-map process_of d.processes at ∙ ap (λ (o : Option IpcProcess). option_map process_of o) is_p in
     let c = each at number link.port (record { process = process_of p; is_process = shown; place = place; link = link; stands = stands; live = live; number_is = number_is; port_is = refl }) in
     let side = side_at c.place in
-    let end : LinkEnd = record { member = at; number = number } in
-    let end_is : link_end c.channel ≡ end = (λ i. record { member = c.member_is i; number = c.number_is i }) in
+    let end : LinkEnd = record { member = at; state = There number } in
+    let end_is : link_end c.channel ≡ end = (λ i. record { member = c.member_is i; state = There (c.number_is i) }) in
     let agent : slice_get (agents_of d.managements) at ≡ Some g.agent = slice_get-map (λ (z : Management). z.agent) d.managements at ∙ ap (option_map (λ (z : Management). z.agent)) is_g in
     let is_end : slice_get (map link_end d.connections.channels) (end_place side.0 side.1) ≡ Some end = ap (slice_get (map link_end d.connections.channels)) side.2 ∙ slice_get-map link_end d.connections.channels c.place ∙ ap (option_map link_end) c.is_channel ∙ ap (λ (e : LinkEnd). Some e) end_is in
     let event : LosesLinkAt (members_seen d) (members_seen new) = record {
@@ -177,10 +177,13 @@ lost_floods d at number m p g g' place link managed each is_m is_p is_g stands l
       end = end;
       agent = g.agent;
       at = record { is_end = is_end; is_agent = agent };
+      number = number;
+      there = refl;
       may = not_refused g.agent g'.agent d.clock number (was_up (find (is_numbered number) g.agent.links)) (spent 1 g.agent.last_count) refl loses;
       after = g'.agent;
       loses = loses;
-      stays = record { members = refl; ends = refl };
+      members = refl;
+      ends = inl refl;
       now = refl;
       agents = map-set (λ (z : Management). z.agent) d.managements at g';
       sent = λ k. refl;

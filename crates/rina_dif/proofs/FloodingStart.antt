@@ -16,6 +16,7 @@ use Rattle.rina_dif_law.specs.Numbered.{AreMembers}
 use Rattle.rina_dif_law.specs.Standing.{IsConfig}
 use Rattle.rina_flood.specs.Members.{IsRunOf, StartIsRun}
 use Rattle.rina_flood.specs.Static.{AreEnds, AreFirst, LinkEnd}
+use Rattle.rina_flood.proofs.States.{there_is}
 use Rattle.rina_iface.specs.declared.ends.End.{End}
 use Rattle.rina_iface.specs.Seen.{Seen}
 use Rattle.rina_law.specs.declared.entry.Entry.{Entry}
@@ -91,11 +92,11 @@ module _ (d : Dif) (manage : Cube) (ports laid_ports : List (Port × Port)) (bel
         let x = map_at link_end d.connections.channels k e is in
         let of = have.links k x.0 x.1 in
         subst (λ (z : LinkEnd). z.member < length d.settings.members) x.2 (within_members x.0.member of.process of.is_process);
-    apart = λ j k a b is_a is_b member number.
+    apart = λ j k a b number is_a is_b member has too.
         let x = map_at link_end d.connections.channels j a is_a in
         let y = map_at link_end d.connections.channels k b is_b in
         let same_member : y.0.member ≡ x.0.member = ap (λ (z : LinkEnd). z.member) y.2 ∙ sym member ∙ sym (ap (λ (z : LinkEnd). z.member) x.2) in
-        let same_number : y.0.number ≡ x.0.number = ap (λ (z : LinkEnd). z.number) y.2 ∙ sym number ∙ sym (ap (λ (z : LinkEnd). z.number) x.2) in
+        let same_number : y.0.number ≡ x.0.number = there_is y.0.number number (ap (λ (z : LinkEnd). z.state) y.2 ∙ too) ∙ sym (there_is x.0.number number (ap (λ (z : LinkEnd). z.state) x.2 ∙ has)) in
         let first = live_channel x.0 (have.links j x.0 x.1) in
         let second : HasLive (map process_of ps) x.0.member x.0.number y.0.port = subst (λ (i : ℕ). HasLive (map process_of ps) i x.0.number y.0.port) same_member (subst (λ (n : ℕ). HasLive (map process_of ps) y.0.member n y.0.port) same_number (live_channel y.0 (have.links k y.0 y.1))) in
         let channels = connected.standing.channels in
@@ -181,7 +182,7 @@ bare_floods start d channels ends none bare rules allow so config members named 
       };
       ends = record {
         within = λ k e is. (let x = map_at link_end d.connections.channels k e is in absurd (none_in d.connections.channels k x.0 channels x.1));
-        apart = λ j k a b is_a is_b member number. (let x = map_at link_end d.connections.channels j a is_a in absurd (none_in d.connections.channels j x.0 channels x.1));
+        apart = λ j k a b number is_a is_b member has too. (let x = map_at link_end d.connections.channels j a is_a in absurd (none_in d.connections.channels j x.0 channels x.1));
       };
       sent = λ place. none_offered d.connections.flows.journal.ends place (λ k e is. absurd (none_in d.connections.flows.journal.ends k e ends is));
       got = λ place. none_handled d.connections.flows.journal.ends place (λ k e is. absurd (none_in d.connections.flows.journal.ends k e ends is));

@@ -14,7 +14,7 @@ use Rattle.rina_enrol.specs.Messages.{IsInRange, IsSpelled}
 use Rattle.rina_enrol.proofs.Guesses.{one_message}
 use Rattle.rina_flood.specs.Journals.{passed_by, offered_by}
 use Rattle.rina_flood.specs.Members.{Adds, AreSame, AreTexts, HandlesMessage, IsAgentAt, IsRunOf, MembersSeen}
-use Rattle.rina_flood.specs.Network.{Far, Near, Side, after_rows, other}
+use Rattle.rina_flood.specs.Network.{Far, Near, Side, There, after_rows, other}
 use Rattle.rina_flood.specs.Static.{LinkEnd, end_place}
 use Rattle.rina_flood.proofs.Journals.{passes_add}
 use Rattle.rina_flood.proofs.Members.{handles_run}
@@ -146,11 +146,11 @@ module _ (d : Dif) (i place number : ℕ) (here : IsLinkEnd d i place number) (g
   here_at n = slice_get-set_same d.connections.flows.journal.ends place end (record end { taken = n }) here.is_end
 
   abbrev pub its_end : LinkEnd
-  its_end = record { member = i; number = number }
+  its_end = record { member = i; state = There number }
 
   there : slice_get (map link_end d.connections.channels) (end_place l (other side)) ≡ Some its_end
   there =
-      let end_is : link_end here.channel ≡ its_end = (λ j. record { member = here.member j; number = sym here.number_is j }) in
+      let end_is : link_end here.channel ≡ its_end = (λ j. record { member = here.member j; state = There (sym here.number_is j) }) in
       ap (slice_get (map link_end d.connections.channels)) to_place ∙ slice_get-map link_end d.connections.channels place ∙ ap (option_map link_end) here.stands ∙ ap (λ (e : LinkEnd). Some e) end_is
 
   pub agent_at : slice_get (agents_of d.managements) i ≡ Some g.agent
@@ -215,6 +215,8 @@ module _ (d : Dif) (i place number : ℕ) (here : IsLinkEnd d i place number) (g
       end = its_end;
       agent = m.agent;
       at = turn_at;
+      number = number;
+      there = refl;
       text = entry.bytes;
       next = next;
       message = message.0;

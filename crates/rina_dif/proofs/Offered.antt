@@ -40,6 +40,7 @@ use Rattle.rina_dif_law.specs.Sending.{offered_entry, offered_pieces}
 use Rattle.rina_flood.specs.Journals.{offered_by, passed_by}
 use Rattle.rina_member.specs.Short.{IsShort}
 use Rattle.rina_flood.specs.Members.{Adds, AreSame, OffersMessage}
+use Rattle.rina_flood.specs.Network.{There}
 use Rattle.rina_flood.specs.Static.{LinkEnd, end_place}
 use Rattle.rina_flood.proofs.Journals.{offers_add}
 use Rattle.rina_flood.proofs.Members.{offers_run}
@@ -164,8 +165,8 @@ module _ (d : Dif) (i place number : ℕ) (sdu : List ℕ) (entry : Entry) (end 
   pub offered_floods : AreFlooding d → AreFlooding sent_d
   offered_floods r =
       let side = side_at place in
-      let its_end : LinkEnd = record { member = i; number = number } in
-      let end_is : link_end here.channel ≡ its_end = (λ j. record { member = here.member j; number = sym here.number_is j }) in
+      let its_end : LinkEnd = record { member = i; state = There number } in
+      let end_is : link_end here.channel ≡ its_end = (λ j. record { member = here.member j; state = There (sym here.number_is j) }) in
       let there : slice_get (map link_end d.connections.channels) (end_place side.0 side.1) ≡ Some its_end = ap (slice_get (map link_end d.connections.channels)) side.2 ∙ slice_get-map link_end d.connections.channels place ∙ ap (option_map link_end) here.stands ∙ ap (λ (e : LinkEnd). Some e) end_is in
       let agent : slice_get (agents_of d.managements) i ≡ Some g.agent = slice_get-map (λ (z : Management). z.agent) d.managements i ∙ ap (option_map (λ (z : Management). z.agent)) first.is_management in
       let f = found (waits_on number) g.agent.agenda first.waiting first.first in
@@ -178,6 +179,8 @@ module _ (d : Dif) (i place number : ℕ) (sdu : List ℕ) (entry : Entry) (end 
         end = its_end;
         agent = g.agent;
         at = record { is_end = there; is_agent = agent };
+        number = number;
+        there = refl;
         early = omega (arith, early);
         message = m.0;
         short = subst (λ (z : ManagementMessage). IsShort z) m.1 ((tell i g first.is_management).short.waiting first.waiting f.0);

@@ -2,6 +2,7 @@
 use Rattle.std.specs.Prelude.{◌≡◌, ℕ, false, List, [], map, slice_get, take, Option, Some, None}
 use Rattle.rina_channel.specs.declared.channel.Channel.{Channel}
 use Rattle.rina_flood.specs.Members.{IsRunOf, MembersSeen}
+use Rattle.rina_flood.specs.Network.{There}
 use Rattle.rina_flood.specs.Static.{LinkEnd}
 use Rattle.rina_iface.specs.declared.ends.End.{End}
 use Rattle.rina_law.specs.declared.entry.Entry.{Entry}
@@ -21,9 +22,10 @@ abbrev pub handled_at : Option End → List (List ℕ)
 handled_at None = []
 handled_at (Some end) = texts_of (take end.taken end.got)
 
--- the end of a link, at the place of its channel
+-- the end of a link, at the place of its channel. Each has its number from the start and keeps it, so that no other link gets the number of a
+-- lost one
 abbrev pub link_end : Channel → LinkEnd
-link_end c = record { member = c.member; number = c.number }
+link_end c = record { member = c.member; state = There c.number }
 
 -- what stands of the members of a DIF: their agents, the ends of their links, and by the place of an end the messages
 abbrev pub members_seen : Dif → MembersSeen

@@ -1,5 +1,5 @@
 -- What the laws of flooding say of a DIF.
-use Rattle.std.specs.Prelude.{◌≡◌, ℕ, Bool, true, false, List, slice_get, Some, None, Contains, MatchOption}
+use Rattle.std.specs.Prelude.{◌≡◌, ℕ, ◌⊎◌, Bool, true, false, List, [], slice_get, Some, None, Contains, MatchOption}
 use Rattle.rina_agent.specs.Neighbours.{link_key, link_state}
 use Rattle.rina_data.specs.declared.process.IpcProcess.{IpcProcess}
 use Rattle.rina_data.specs.declared.settings.Member.{Member}
@@ -33,11 +33,11 @@ abbrev pub MembersKeepTheNewest : Type 0
 MembersKeepTheNewest = (d : Dif) (lines : List Direction) (below : Seen) (place : ℕ) (member : Member) (m : Management) (key : List ℕ) (is : IsMemberOf d lines below place member m)
     → MatchOption (kept_at m.agent.items key) ((x : Item) → Contains (offered_in d.laid.is_static d.laid.links (members_seen d) (is.holds.flooded is.alive) member.addr) x → x.key ≡ key → ⊥) (IsNewest (offered_in d.laid.is_static d.laid.links (members_seen d) (is.holds.flooded is.alive) member.addr) key)
 
--- Where all is quiet on a walk of links, the members at its ends keep the same items, key by key, and in a static DIF the one keeps the link
--- state of the other as the other's links are now
+-- Where all is quiet on a walk of links, the members at its ends keep the same items, key by key; and in a static DIF, and where the walk is not
+-- empty, the one keeps the link state of the other as the other's links are now
 abbrev pub MembersAgree : Type 0
 MembersAgree = (d : Dif) (lines : List Direction) (below : Seen) (i j : ℕ) (steps : List (ℕ × Side × ℕ)) (first last : Member) (m n : Management) → IsMemberOf d lines below i first m → IsMemberOf d lines below j last n → IsQuietPath (members_seen d) i steps j
-    → ((key : List ℕ) → kept_at m.agent.items key ≡ kept_at n.agent.items key) × (d.laid.is_static ≡ true → value_at n.agent.items (link_key first.addr) ≡ Some (link_state None m.agent.links))
+    → ((key : List ℕ) → kept_at m.agent.items key ≡ kept_at n.agent.items key) × ((d.laid.is_static ≡ true) ⊎ (steps ≡ [] → ⊥) → value_at n.agent.items (link_key first.addr) ≡ Some (link_state None m.agent.links))
 
 -- Where all is quiet on a walk of links, the items of the member at its one end claim, from the address of the member at the other, the
 -- live links of its IPC process and no others

@@ -12,7 +12,7 @@ use Rattle.rina_agent.specs.declared.message.Waiting.{Waiting}
 use Rattle.rina_agent.specs.Agenda.{waiting_on, floods, is_out, without_link}
 use Rattle.rina_agent.specs.Enrolments.{is_numbered}
 use Rattle.rina_agent.specs.Rows.{was_up}
-use Rattle.rina_flood.specs.Network.{AreApart}
+use Rattle.rina_flood.specs.Network.{EndState, Unmade, There, Gone, link_at, waiting_at, AreApart}
 use Rattle.rina_flood.proofs.Calls.{AreFewer}
 use Rattle.rina_flood.proofs.Messages.{waits_from, waits_old, waits_new, floods_from, floods_has, lost_waits, spared_wait, without_number, lost_link, spared_link, apart_kept}
 use Rattle.rina_flood.proofs.Places.{nothing_in}
@@ -23,6 +23,22 @@ pub record AreFlooded (newer : Bool) (x : Item) (back : ℕ → Type 0) (before 
   pub follows : (k : ℕ) (m : ManagementMessage) → Contains (waiting_on k after) m → Contains (waiting_on k before) m ⊎ (ToNeighbour (messages.Flood x) ≡ m)
   pub remains : (k : ℕ) (m : ManagementMessage) → was_up (find (is_numbered k) links) ≡ true → Contains (waiting_on k before) m → Contains (waiting_on k after) m
   pub reaches : (k : ℕ) → newer ≡ true → was_up (find (is_numbered k) links) ≡ true → back k ⊎ Contains (waiting_on k after) (ToNeighbour (messages.Flood x))
+
+-- so at each end
+pub follows_at : (newer : Bool) (x : Item) (back : ℕ → Type 0) (before after : List Waiting) (links : List Link) → AreFlooded newer x back before after links → (s : EndState) (m : ManagementMessage) → Contains (waiting_at s after) m → Contains (waiting_at s before) m ⊎ (ToNeighbour (messages.Flood x) ≡ m)
+follows_at newer x back before after links f Unmade m e = inl e
+follows_at newer x back before after links f (There k) m e = f.follows k m e
+follows_at newer x back before after links f Gone m e = inl e
+
+pub remains_at : (newer : Bool) (x : Item) (back : ℕ → Type 0) (before after : List Waiting) (links : List Link) → AreFlooded newer x back before after links → (s : EndState) (m : ManagementMessage) → was_up (link_at s links) ≡ true → Contains (waiting_at s before) m → Contains (waiting_at s after) m
+remains_at newer x back before after links f Unmade m up e = e
+remains_at newer x back before after links f (There k) m up e = f.remains k m up e
+remains_at newer x back before after links f Gone m up e = e
+
+pub reaches_at : (newer : Bool) (x : Item) (back : ℕ → Type 0) (before after : List Waiting) (links : List Link) → AreFlooded newer x back before after links → (s : EndState) → newer ≡ true → was_up (link_at s links) ≡ true → ((k : ℕ) × (s ≡ There k) × back k) ⊎ Contains (waiting_at s after) (ToNeighbour (messages.Flood x))
+reaches_at newer x back before after links f Unmade n up = absurd (both_ways true (sym up) refl)
+reaches_at newer x back before after links f (There k) n up = elim (f.reaches k n up) [ inl b ↦ inl (k, refl, b) | inr e ↦ inr e ]
+reaches_at newer x back before after links f Gone n up = absurd (both_ways true (sym up) refl)
 
 pub made_floods : (newer : Bool) (x : Item) (before : List Waiting) (links : List Link) → AreFlooded newer x (λ k. ⊥) before (before ++ floods None x links) links
 made_floods newer x before links = record {
@@ -97,8 +113,12 @@ lost_floods link newer x before links apart = record {
 }
 
 -- a link is lost, and no item is made
-pub dropped_from : (link k : ℕ) (ws : List Waiting) (m : ManagementMessage) → Contains (waiting_on k (without_link link ws)) m → Contains (waiting_on k ws) m
-dropped_from = lost_from
+pub dropped_from_at : (link : ℕ) (s : EndState) (ws : List Waiting) (m : ManagementMessage) → Contains (waiting_at s (without_link link ws)) m → Contains (waiting_at s ws) m
+dropped_from_at link Unmade ws m e = e
+dropped_from_at link (There k) ws m e = lost_from link k ws m e
+dropped_from_at link Gone ws m e = e
 
-pub dropped_stays : (link k : ℕ) (ws : List Waiting) (links : List Link) (m : ManagementMessage) → AreApart links → was_up (find (is_numbered k) (without_number link links)) ≡ true → Contains (waiting_on k ws) m → Contains (waiting_on k (without_link link ws)) m
-dropped_stays link k ws links m apart up e = spared_stays link k ws m (spared link k links apart up) e
+pub dropped_stays_at : (link : ℕ) (s : EndState) (ws : List Waiting) (links : List Link) (m : ManagementMessage) → AreApart links → was_up (link_at s (without_number link links)) ≡ true → Contains (waiting_at s ws) m → Contains (waiting_at s (without_link link ws)) m
+dropped_stays_at link Unmade ws links m apart up e = e
+dropped_stays_at link (There k) ws links m apart up e = spared_stays link k ws m (spared link k links apart up) e
+dropped_stays_at link Gone ws links m apart up e = e

@@ -1,8 +1,9 @@
 -- All rows, and the start.
-use Rattle.std.proofs.Common.{◌≡◌, ℕ, ◌⊎◌, List, ◌∷◌, ◌++◌, Contains, Some, None, refl, sym, ◌∙◌, ap, subst, inl, inr, []}
+use Rattle.std.proofs.Common.{◌≡◌, ℕ, ◌⊎◌, ◌<◌, ◌^◌, List, ◌∷◌, ◌++◌, Contains, Some, None, refl, sym, ◌∙◌, ap, subst, inl, inr, []}
 use Rattle.std.specs.Prelude.{find, flat_map}
 use Rattle.std.proofs.lemmas.Bool.{cases_Bool}
 use Rattle.std.proofs.lemmas.Option.{none-some, same_Some}
+use Rattle.rina_enrol.specs.declared.event.EnrolEvent.TheVariants as events
 use Rattle.rina_enrol.specs.declared.message.LinkMessage.{LinkMessage}
 use Rattle.rina_enrol.specs.declared.message.LinkMessage.TheVariants as messages
 use Rattle.rina_newest.specs.declared.item.Item.{Item}
@@ -10,69 +11,89 @@ use Rattle.rina_newest.specs.Newest.{has_key, kept_at, taken_all}
 use Rattle.rina_agent.specs.declared.message.ManagementMessage.{ManagementMessage}
 use Rattle.rina_agent.specs.declared.message.ManagementMessage.TheVariants.{ToNeighbour, ToMember}
 use Rattle.rina_agent.specs.declared.message.Waiting.{Waiting}
-use Rattle.rina_agent.specs.Agenda.{waiting_on}
-use Rattle.rina_agent.specs.Counts.{spent}
+use Rattle.rina_agent.specs.Counts.{next_of, spent}
 use Rattle.rina_agent.specs.Enrolled.{Handles}
-use Rattle.rina_agent.specs.Enrolments.{is_numbered}
-use Rattle.rina_agent.specs.Rows.{was_up}
-use Rattle.rina_flood.specs.Network.{Side, other, Network, put_agent, put_sent, unhandled, carried, on_way, Row, Make, Put, Take, Handle, Lose, Drop, Know, Pass, happens, May, IsRun, after_rows, IsStart, with_message, item_in, called, Enrol, Claim, KnowsAll, KnowsNothing}
+use Rattle.rina_agent.specs.Enrolments.{hears, is_numbered}
+use Rattle.rina_agent.specs.Rows.{denial, was_up}
+use Rattle.rina_flood.specs.Network.{Side, other, EndState, Unmade, There, Gone, Network, waiting_at, put_agent, put_sent, unhandled, carried, on_way, Row, Make, Put, Take, Handle, Lose, Leave, Drop, Know, Pass, happens, May, IsRun, after_rows, IsStart, with_message, item_in, called, Enrol, Claim, KnowsAll, KnowsNothing}
 use Rattle.rina_flood.proofs.Flow.{key_same, itself_least}
 use Rattle.rina_flood.proofs.Holds.{Holds}
 use Rattle.rina_flood.proofs.Places.{nothing_in}
 use Rattle.rina_flood.proofs.Steps.{make_holds, took_holds}
-use Rattle.rina_flood.proofs.Enrolling.{connect_holds, allow_holds, deny_holds, start_r_holds, stop_r_holds}
-use Rattle.rina_flood.proofs.Entering.{start_holds}
+use Rattle.rina_flood.proofs.Enrolling.{connect_by, allow_by, deny_by, note_by}
+use Rattle.rina_flood.proofs.Entering.{holds_kept, start_keeps}
+use Rattle.rina_flood.proofs.Keeping.{IsKept}
 use Rattle.rina_flood.proofs.Known.{know_holds}
 use Rattle.rina_flood.proofs.NewLinks.{enrol_holds, claim_holds}
 use Rattle.rina_flood.proofs.Runs.{lose_by, moving_holds, put_moving, take_holds, left_moving, passed_moving, pass_holds}
-use Rattle.rina_flood.proofs.Stopping.{stop_holds}
+use Rattle.rina_flood.proofs.States.{close_holds}
+use Rattle.rina_flood.proofs.Stopping.{stop_keeps}
 
 -- A message is handled
 
-near_holds : (n : Network) (i k : ℕ) (m : LinkMessage) → item_in m ≡ [] → Holds n → Holds (called n i (Handles n.now k m))
-near_holds n i k (messages.Connect invoke joiner member) empty h = connect_holds n i k invoke joiner member h
-near_holds n i k (messages.ConnectR invoke None) empty h = allow_holds n i k invoke h
-near_holds n i k (messages.ConnectR invoke (Some rule)) empty h = deny_holds n i k invoke rule h
-near_holds n i k (messages.Start invoke address) empty h = start_holds n i k invoke address h
-near_holds n i k (messages.StartR invoke) empty h = start_r_holds n i k invoke h
-near_holds n i k (messages.Item x) empty h = absurd (cc)
-near_holds n i k (messages.Stop invoke) empty h = stop_holds n i k invoke h
-near_holds n i k (messages.StopR invoke) empty h = stop_r_holds n i k invoke h
-near_holds n i k (messages.Flood x) empty h = absurd (cc)
+-- it keeps what an enrolment keeps, where it carries no item
+module _ (P : Network → Type 0) (kept : IsKept P) where
+  pub near_keeps : (n : Network) (i k : ℕ) (m : LinkMessage) → item_in m ≡ [] → i < 2 ^ 32 → P n → P (called n i (Handles n.now k m))
+  near_keeps n i k (messages.Connect invoke joiner member) empty fits h =
+      let a = n.agents i in
+      let m = messages.Connect invoke joiner member in
+      let reply = messages.ConnectR invoke (denial a joiner) in
+      kept.quiet n i _ (connect_by a k m reply (reply ∷ []) (events.Connect (denial a joiner)) (hears a.links k m (reply ∷ []) (events.Connect (denial a joiner))) refl refl) h
+  near_keeps n i k (messages.ConnectR invoke None) empty fits h =
+      let a = n.agents i in
+      let m = messages.ConnectR invoke None in
+      let start = messages.Start (next_of a.last_invoke) a.address in
+      kept.quiet n i _ (allow_by a k m start (start ∷ []) (events.ConnectR None) (hears a.links k m (start ∷ []) (events.ConnectR None)) refl refl) h
+  near_keeps n i k (messages.ConnectR invoke (Some rule)) empty fits h =
+      let a = n.agents i in
+      let m = messages.ConnectR invoke (Some rule) in
+      kept.quiet n i _ (deny_by a k k rule m [] (events.ConnectR (Some rule)) (hears a.links k m [] (events.ConnectR (Some rule))) refl) h
+  near_keeps n i k (messages.Start invoke address) empty fits h = start_keeps P kept n i k invoke address fits h
+  near_keeps n i k (messages.StartR invoke) empty fits h =
+      let a = n.agents i in
+      let m = messages.StartR invoke in
+      kept.quiet n i _ (note_by a k m [] events.StartR (hears a.links k m [] events.StartR) refl) h
+  near_keeps n i k (messages.Item x) empty fits h = absurd (cc)
+  near_keeps n i k (messages.Stop invoke) empty fits h = stop_keeps P kept n i k invoke fits h
+  near_keeps n i k (messages.StopR invoke) empty fits h =
+      let a = n.agents i in
+      let m = messages.StopR invoke in
+      kept.quiet n i _ (note_by a k m [] events.StopR (hears a.links k m [] events.StopR) refl) h
+  near_keeps n i k (messages.Flood x) empty fits h = absurd (cc)
 
 -- one without an item is taken off first
-popped_holds : (n : Network) (link : ℕ) (side : Side) (m : ManagementMessage) (rest : List ManagementMessage) → Holds n → n.sent link side ≡ m ∷ rest → carried m ≡ [] → Holds (record n { sent = put_sent link side rest n.sent })
+pub popped_holds : (n : Network) (link : ℕ) (side : Side) (m : ManagementMessage) (rest : List ManagementMessage) → Holds n → n.sent link side ≡ m ∷ rest → carried m ≡ [] → Holds (record n { sent = put_sent link side rest n.sent })
 popped_holds n link side m rest h first empty = moving_holds n n.agents (put_sent link side rest n.sent) (passed_moving n link side m rest empty first) h
 
-empty_handled : (n : Network) (link : ℕ) (side : Side) (m : LinkMessage) (rest : List ManagementMessage) → Holds n → n.sent link side ≡ ToNeighbour m ∷ rest → item_in m ≡ [] → Holds (happens n (Handle link side (ToNeighbour m) rest))
-empty_handled n link side m rest h first empty = near_holds (record n { sent = put_sent link side rest n.sent }) (n.ends link (other side)) (n.numbers link (other side)) m empty (popped_holds n link side (ToNeighbour m) rest h first empty)
+empty_handled : (n : Network) (link : ℕ) (side : Side) (number : ℕ) (m : LinkMessage) (rest : List ManagementMessage) → Holds n → n.states link (other side) ≡ There number → n.sent link side ≡ ToNeighbour m ∷ rest → item_in m ≡ [] → Holds (happens n (Handle link side number (ToNeighbour m) rest))
+empty_handled n link side number m rest h there first empty = near_keeps Holds holds_kept (record n { sent = put_sent link side rest n.sent }) (n.ends link (other side)) number m empty (h.laid.fit link (other side)) (popped_holds n link side (ToNeighbour m) rest h first empty)
 
-handle_near : (n : Network) (link : ℕ) (side : Side) (m : LinkMessage) (rest : List ManagementMessage) → Holds n → n.sent link side ≡ ToNeighbour m ∷ rest → Holds (happens n (Handle link side (ToNeighbour m) rest))
-handle_near n link side (messages.Connect invoke joiner member) rest h first = empty_handled n link side (messages.Connect invoke joiner member) rest h first refl
-handle_near n link side (messages.ConnectR invoke denied) rest h first = empty_handled n link side (messages.ConnectR invoke denied) rest h first refl
-handle_near n link side (messages.Start invoke address) rest h first = empty_handled n link side (messages.Start invoke address) rest h first refl
-handle_near n link side (messages.StartR invoke) rest h first = empty_handled n link side (messages.StartR invoke) rest h first refl
-handle_near n link side (messages.Item x) rest h first = took_holds n link side (ToNeighbour (messages.Item x)) rest first x refl h
-handle_near n link side (messages.Stop invoke) rest h first = empty_handled n link side (messages.Stop invoke) rest h first refl
-handle_near n link side (messages.StopR invoke) rest h first = empty_handled n link side (messages.StopR invoke) rest h first refl
-handle_near n link side (messages.Flood x) rest h first = took_holds n link side (ToNeighbour (messages.Flood x)) rest first x refl h
+handle_near : (n : Network) (link : ℕ) (side : Side) (number : ℕ) (m : LinkMessage) (rest : List ManagementMessage) → Holds n → n.states link (other side) ≡ There number → n.sent link side ≡ ToNeighbour m ∷ rest → Holds (happens n (Handle link side number (ToNeighbour m) rest))
+handle_near n link side number (messages.Connect invoke joiner member) rest h there first = empty_handled n link side number (messages.Connect invoke joiner member) rest h there first refl
+handle_near n link side number (messages.ConnectR invoke denied) rest h there first = empty_handled n link side number (messages.ConnectR invoke denied) rest h there first refl
+handle_near n link side number (messages.Start invoke address) rest h there first = empty_handled n link side number (messages.Start invoke address) rest h there first refl
+handle_near n link side number (messages.StartR invoke) rest h there first = empty_handled n link side number (messages.StartR invoke) rest h there first refl
+handle_near n link side number (messages.Item x) rest h there first = took_holds n link side (ToNeighbour (messages.Item x)) rest first x refl h number there
+handle_near n link side number (messages.Stop invoke) rest h there first = empty_handled n link side number (messages.Stop invoke) rest h there first refl
+handle_near n link side number (messages.StopR invoke) rest h there first = empty_handled n link side number (messages.StopR invoke) rest h there first refl
+handle_near n link side number (messages.Flood x) rest h there first = took_holds n link side (ToNeighbour (messages.Flood x)) rest first x refl h number there
 
-handle_holds : (n : Network) (link : ℕ) (side : Side) (m : ManagementMessage) (rest : List ManagementMessage) → Holds n → n.sent link side ≡ m ∷ rest → Holds (happens n (Handle link side m rest))
-handle_holds n link side (ToNeighbour m) rest h first = handle_near n link side m rest h first
-handle_holds n link side (ToMember m) rest h first = popped_holds n link side (ToMember m) rest h first refl
+handle_holds : (n : Network) (link : ℕ) (side : Side) (number : ℕ) (m : ManagementMessage) (rest : List ManagementMessage) → Holds n → n.states link (other side) ≡ There number → n.sent link side ≡ m ∷ rest → Holds (happens n (Handle link side number m rest))
+handle_holds n link side number (ToNeighbour m) rest h there first = handle_near n link side number m rest h there first
+handle_holds n link side number (ToMember m) rest h there first = popped_holds n link side (ToMember m) rest h first refl
 
 -- All rows
 
 pub row_holds : (n : Network) (row : Row) → Holds n → May n row → Holds (happens n row)
 row_holds n (Make i key value) h may = make_holds n i key value h may
-row_holds n (Put link side m) h may = moving_holds n (put_agent (n.ends link side) (with_message (n.agents (n.ends link side)) (n.numbers link side) m) n.agents) n.sent (put_moving n link side m) h
-row_holds n (Take link side m) h may = take_holds n link side m h may
-row_holds n (Handle link side m rest) h may = handle_holds n link side m rest h may
-row_holds n (Lose link side) h may =
-    lose_by n (n.ends link side) (n.numbers link side) (was_up (find (is_numbered (n.numbers link side)) (n.agents (n.ends link side)).links)) (spent 1 (n.agents (n.ends link side)).last_count) h may may
+row_holds n (Put link side number m) h may = moving_holds n (put_agent (n.ends link side) (with_message (n.agents (n.ends link side)) number m) n.agents) n.sent (put_moving n link side number m) h
+row_holds n (Take link side number m) h may = take_holds n link side number m h may.0 may.1
+row_holds n (Handle link side number m rest) h may = handle_holds n link side number m rest h may.0 may.1
+row_holds n (Lose link side number) h may = lose_by n (n.ends link side) number (was_up (find (is_numbered number) (n.agents (n.ends link side)).links)) (spent 1 (n.agents (n.ends link side)).last_count) h may.1 may.1
+row_holds n (Leave link side number) h may = close_holds n link side h
 row_holds n (Drop link side left) h may = moving_holds n n.agents (put_sent link side left n.sent) (left_moving n link side left may.0 may.1) h
-row_holds n (Enrol link side member node) h may = enrol_holds n link side member node h may.0 may.1
-row_holds n (Claim link side) h may = claim_holds n link side h may
+row_holds n (Enrol link side number i j member node) h may = enrol_holds n link side number i j member node h may.0 may.1 may.2 may.3 may.4
+row_holds n (Claim link side number) h may = claim_holds n link side number h may.1 may.2
 row_holds n (Know x) h may = know_holds n x h may
 row_holds n Pass h may = pass_holds n h
 
@@ -91,11 +112,16 @@ found_key (i ∷ items) key x e = elim (cases_Bool (has_key key i)) [
   | inr isnt ↦ found_key items key x (rw isnt at e)
 ]
 
+none_at : (s : EndState) → waiting_at s [] ≡ []
+none_at Unmade = refl
+none_at (There k) = refl
+none_at Gone = refl
+
 pub no_messages : (n : Network) (told : List Item) → IsStart n told → (l : ℕ) (d : Side) → unhandled n l d ≡ []
 no_messages n told s l d =
     let sent = s.sent l d in
     let agenda = s.agendas (n.ends l d) in
-    ap (λ (ms : List ManagementMessage). ms ++ waiting_on (n.numbers l d) (n.agents (n.ends l d)).agenda) sent ∙ ap (λ (ws : List Waiting). waiting_on (n.numbers l d) ws) agenda
+    ap (λ (ms : List ManagementMessage). ms ++ waiting_at (n.states l d) (n.agents (n.ends l d)).agenda) sent ∙ ap (λ (ws : List Waiting). waiting_at (n.states l d) ws) agenda ∙ none_at (n.states l d)
 
 -- a member that keeps the items of the start, and one that keeps none
 kept_known : (n : Network) (told : List Item) (i : ℕ) (key : List ℕ) (x : Item) → KnowsAll n told i ⊎ KnowsNothing n i → kept_at (n.agents i).items key ≡ Some x → kept_at (taken_all [] told) key ≡ Some x

@@ -1,8 +1,8 @@
--- In a static DIF the numbers of what is sent fit in 32 bits.
+-- The numbers of what is sent in a DIF fit in 32 bits.
 use Rattle.std.proofs.Common.{◌≡◌, ℕ, ◌<◌, ◌^◌, Bool, true, false, cond, List, ◌∷◌, ◌++◌, Contains, Option, Some, None, Ok, refl, sym, ◌∙◌, ap, subst, inl, inr, arith, []}
 use Rattle.std.specs.Prelude.{find}
 use Rattle.std.proofs.lemmas.Bool.{both_ways}
-use Rattle.std.proofs.lemmas.List.Elements.{Contains-append_right, Contains-push_cases}
+use Rattle.std.proofs.lemmas.List.Elements.{Contains-push_cases}
 use Rattle.rina_enrol.specs.declared.message.LinkMessage.{LinkMessage}
 use Rattle.rina_enrol.specs.declared.message.LinkMessage.TheVariants as messages
 use Rattle.rina_enrol.specs.Messages.{IsInRange, IsVersion}
@@ -12,26 +12,27 @@ use Rattle.rina_agent.specs.declared.agent.Agent.{Agent}
 use Rattle.rina_agent.specs.declared.message.ManagementMessage.{ManagementMessage}
 use Rattle.rina_agent.specs.declared.message.ManagementMessage.TheVariants.{ToNeighbour, ToMember}
 use Rattle.rina_agent.specs.declared.state.AgentError.{AgentError}
-use Rattle.rina_agent.specs.Agenda.{floods, waiting_on}
+use Rattle.rina_agent.specs.Agenda.{floods}
 use Rattle.rina_agent.specs.Counts.{next_of, spent, unless}
 use Rattle.rina_agent.specs.Enrolled.{done}
 use Rattle.rina_agent.specs.Enrolments.{is_numbered}
 use Rattle.rina_agent.specs.Items.{made, own_item, stated, took}
-use Rattle.rina_agent.specs.Rows.{was_up, dropped}
+use Rattle.rina_agent.specs.Rows.{was_up, dropped, joining}
 use Rattle.rina_plan.specs.declared.dif.LinkPlan.{LinkPlan}
 use Rattle.rina_data.specs.declared.settings.Member.{Member}
 use Rattle.rina_member.specs.Knowing.{IsLaidOut}
 use Rattle.rina_member.specs.Start.{start_items}
 use Rattle.rina_member.proofs.Laying.{small_address}
-use Rattle.rina_flood.specs.Network.{Side, other, Network, Row, Make, Put, Take, Handle, Lose, Drop, Know, Pass, Enrol, Claim, happens, May, IsRun, after_rows, IsStart, carried, on_way, unhandled, is_enrolled, put_agent}
-use Rattle.rina_flood.specs.Static.{IsOfStatic, AreOfStatic}
-use Rattle.rina_flood.proofs.All.{row_holds, rows_hold, begin_holds}
+use Rattle.rina_flood.specs.Network.{Side, other, Network, item_in, last_state, put_sent, Row, Make, Put, Take, Handle, Lose, Leave, Drop, Know, Pass, Enrol, Claim, happens, May, IsRun, after_rows, IsStart, carried, on_way, unhandled, is_enrolled, put_agent}
+use Rattle.rina_flood.specs.Static.{IsOfDif, AreOfDif}
+use Rattle.rina_flood.proofs.All.{near_keeps, popped_holds, row_holds, rows_hold, begin_holds}
 use Rattle.rina_flood.proofs.Calls.{at_place}
-use Rattle.rina_flood.proofs.Entries.{makes_no_link, static_rows, near_made, none_more, state_of_loss}
-use Rattle.rina_flood.proofs.Holds.{is_plain, ArePlain, Holds}
+use Rattle.rina_flood.proofs.Entries.{none_more, state_of_loss}
+use Rattle.rina_flood.proofs.Entering.{holds_kept}
+use Rattle.rina_flood.proofs.Holds.{is_plain, Holds}
+use Rattle.rina_flood.proofs.Keeping.{IsKept}
 use Rattle.rina_flood.proofs.Known.{knower_count}
 use Rattle.rina_flood.proofs.Places.{flat_in, in_first}
-use Rattle.rina_flood.proofs.Plain.{first_plain, row_plain, rows_plain, start_plain}
 use Rattle.rina_member.proofs.Starting.{start_of}
 
 -- the counters of members and the origins of items fit
@@ -60,82 +61,100 @@ took_few : (newer : Bool) (a : Agent) (link : ℕ) (x : Item) (items : List Item
 took_few true a link x items few = few
 took_few false a link x items few = few
 
-took_at : (n : Network) (link : ℕ) (side : Side) (x : Item) (i : ℕ) → IsFew (n.agents i) → IsFew (put_agent (n.ends link (other side)) (took (n.numbers link (other side)) (n.agents (n.ends link (other side))) x) n.agents i)
-took_at n link side x i few =
+joined_few : (o : Option AgentError) (a : Agent) (number : ℕ) (member node : List ℕ) → IsFew a → IsFew (done a (unless o (joining a number member node)))
+joined_few None a number member node few = few
+joined_few (Some e) a number member node few = few
+
+-- the agent of one member is another
+one_few : (n : Network) (i : ℕ) (b : Agent) → (IsFew (n.agents i) → IsFew b) → ((j : ℕ) → IsFew (n.agents j)) → (j : ℕ) → IsFew (put_agent i b n.agents j)
+one_few n i b changed few j = at_place (λ a c. IsFew a → IsFew c) i b n.agents j changed (λ a e. e) (few j)
+
+-- an item of a member is made
+one_near : (n : Network) (i : ℕ) (x : Item) → Holds n → i < 2 ^ 32 → x.version.origin ≡ (n.agents i).address → ((y : Item) → Contains n.made y → y.version.origin < 2 ^ 32) → (y : Item) → Contains (n.made ++ x ∷ []) y → y.version.origin < 2 ^ 32
+one_near n i x h fits origin near y e = elim (Contains-push_cases n.made x y e) [
+  | inl old ↦ near y old
+  | inr is ↦
+      (let same : y.version.origin ≡ i = ap (λ (z : Item). z.version.origin) (sym is) ∙ origin ∙ h.laid.addresses i in
+      omega (arith, same, fits))
+]
+
+same_near : (n : Network) → ((y : Item) → Contains n.made y → y.version.origin < 2 ^ 32) → (y : Item) → Contains (n.made ++ []) y → y.version.origin < 2 ^ 32
+same_near n near y e = near y (none_more n.made y e)
+
+-- In an enrolment
+
+abbrev HoldsBounded : Network → Type 0
+HoldsBounded n = Holds n × IsBounded n
+
+bounded_kept : IsKept HoldsBounded
+bounded_kept = record {
+  quiet = λ n i b q p. (
+    holds_kept.quiet n i b q p.0,
+    record { counts = one_few n i b (λ few. (let same = q.same.count in omega (arith, few, same))) p.1.counts; origins = same_near n p.1.origins },
+  );
+  introduces = λ n i fits may p. (
+    holds_kept.introduces n i fits may p.0,
+    record { counts = one_few n i _ (λ few. next_few (n.agents i).last_count) p.1.counts; origins = one_near n i _ p.0 fits refl p.1.origins },
+  );
+  raises = λ n i k a batch fits r may p. (
+    holds_kept.raises n i k a batch fits r may p.0,
+    record { counts = one_few n i (stated None a n.now) (λ few. next_few a.last_count) p.1.counts; origins = one_near n i (last_state (stated None a n.now) n.now) p.0 fits r.address p.1.origins },
+  );
+}
+
+near_bounded : (n : Network) (link : ℕ) (side : Side) (number : ℕ) (m : LinkMessage) (rest : List ManagementMessage) → Holds n → n.sent link side ≡ ToNeighbour m ∷ rest → item_in m ≡ [] → IsBounded n → IsBounded (happens n (Handle link side number (ToNeighbour m) rest))
+near_bounded n link side number m rest h first empty b =
+    let on : Network = record n { sent = put_sent link side rest n.sent } in
+    let r = near_keeps HoldsBounded bounded_kept on (n.ends link (other side)) number m empty (h.laid.fit link (other side)) (popped_holds n link side (ToNeighbour m) rest h first empty, record { counts = b.counts; origins = b.origins }) in
+    record { counts = r.1.counts; origins = r.1.origins }
+
+came_bounded : (n : Network) (link : ℕ) (side : Side) (number : ℕ) (x : Item) → IsBounded n → (i : ℕ) → IsFew (put_agent (n.ends link (other side)) (took number (n.agents (n.ends link (other side))) x) n.agents i)
+came_bounded n link side number x b i =
     let a = n.agents (n.ends link (other side)) in
-    at_place (λ a c. IsFew a → IsFew c) (n.ends link (other side)) _ n.agents i (took_few (is_newer x.version (kept_at a.items x.key)) a (n.numbers link (other side)) x (taken a.items x)) (λ c e. e) few
+    one_few n (n.ends link (other side)) (took number a x) (took_few (is_newer x.version (kept_at a.items x.key)) a number x (taken a.items x)) b.counts i
 
-near_few : (n : Network) (link : ℕ) (side : Side) (m : LinkMessage) (rest : List ManagementMessage) (i : ℕ) → is_plain (ToNeighbour m) ≡ true → IsFew (n.agents i) → IsFew ((happens n (Handle link side (ToNeighbour m) rest)).agents i)
-near_few n link side (messages.Connect invoke joiner member) rest i plain few = absurd (both_ways true (sym plain) refl)
-near_few n link side (messages.ConnectR invoke denied) rest i plain few = absurd (both_ways true (sym plain) refl)
-near_few n link side (messages.Start invoke address) rest i plain few = absurd (both_ways true (sym plain) refl)
-near_few n link side (messages.StartR invoke) rest i plain few = absurd (both_ways true (sym plain) refl)
-near_few n link side (messages.Stop invoke) rest i plain few = absurd (both_ways true (sym plain) refl)
-near_few n link side (messages.StopR invoke) rest i plain few = absurd (both_ways true (sym plain) refl)
-near_few n link side (messages.Item x) rest i plain few = took_at n link side x i few
-near_few n link side (messages.Flood x) rest i plain few = took_at n link side x i few
-
-row_few : (n : Network) (row : Row) (i : ℕ) → ArePlain n → May n row → IsOfStatic row → IsFew (n.agents i) → IsFew ((happens n row).agents i)
-row_few n (Make j key value) i plain may of few =
-    let a = n.agents j in
-    at_place (λ a c. IsFew a → IsFew c) j _ n.agents i (made_few (spent 1 a.last_count) a n.now key value) (λ c e. e) few
-row_few n (Put link side m) i plain may of few = at_place (λ a c. IsFew a → IsFew c) (n.ends link side) _ n.agents i (λ e. e) (λ a e. e) few
-row_few n (Take link side m) i plain may of few = at_place (λ a c. IsFew a → IsFew c) (n.ends link side) _ n.agents i (λ e. e) (λ a e. e) few
-row_few n (Handle link side (ToNeighbour m) rest) i plain may of few = near_few n link side m rest i (first_plain n link side (ToNeighbour m) rest plain may) few
-row_few n (Handle link side (ToMember m) rest) i plain may of few = few
-row_few n (Lose link side) i plain may of few =
-    let a = n.agents (n.ends link side) in
-    let k = n.numbers link side in
-    at_place (λ a c. IsFew a → IsFew c) (n.ends link side) _ n.agents i (lost_few (was_up (find (is_numbered k) a.links)) (spent 1 a.last_count) a n.now k) (λ c e. e) few
-row_few n (Drop link side left) i plain may of few = few
-row_few n (Enrol link side member node) i plain may of few = absurd of
-row_few n (Claim link side) i plain may of few = absurd of
-row_few n (Know x) i plain may of few = (let same = knower_count (is_enrolled (n.agents i)) x (n.agents i) in omega (arith, few, same))
-row_few n Pass i plain may of few = few
-
--- Origins
-
-lost_near : (n : Network) (link : ℕ) (side : Side) (up : Bool) (x : Item) → Holds n → (Contains n.made x → x.version.origin < 2 ^ 32) → Contains (n.made ++ cond up (state_of_loss n (n.ends link side) (n.numbers link side) ∷ []) []) x → x.version.origin < 2 ^ 32
-lost_near n link side true x h old e = elim (Contains-push_cases n.made (state_of_loss n (n.ends link side) (n.numbers link side)) x e) [
-  | inl was ↦ old was
-  | inr is ↦
-      (let same : x.version.origin ≡ n.ends link side = ap (λ (y : Item). y.version.origin) (sym is) ∙ h.laid.addresses (n.ends link side) in
-      let fits = h.laid.fit link side in
-      omega (arith, same, fits))
-]
-lost_near n link side false x h old e = old (none_more n.made x e)
-
-row_near : (n : Network) (row : Row) (x : Item) → Holds n → ArePlain n → May n row → IsOfStatic row → (Contains n.made x → x.version.origin < 2 ^ 32) → Contains (happens n row).made x → x.version.origin < 2 ^ 32
-row_near n (Make j key value) x h plain may of old e = elim (Contains-push_cases n.made (own_item (n.agents j) n.now key value) x e) [
-  | inl was ↦ old was
-  | inr is ↦
-      (let same : x.version.origin ≡ j = ap (λ (y : Item). y.version.origin) (sym is) ∙ h.laid.addresses j in
-      let fits = of.1 in
-      omega (arith, same, fits))
-]
-row_near n (Put link side m) x h plain may of old e = old e
-row_near n (Take link side m) x h plain may of old e = old (none_more n.made x e)
-row_near n (Handle link side (ToNeighbour m) rest) x h plain may of old e = old (near_made n link side m rest x (first_plain n link side (ToNeighbour m) rest plain may) e)
-row_near n (Handle link side (ToMember m) rest) x h plain may of old e = old e
-row_near n (Lose link side) x h plain may of old e = lost_near n link side (was_up (find (is_numbered (n.numbers link side)) (n.agents (n.ends link side)).links)) x h old e
-row_near n (Drop link side left) x h plain may of old e = old e
-row_near n (Enrol link side member node) x h plain may of old e = absurd of
-row_near n (Claim link side) x h plain may of old e = absurd of
-row_near n (Know y) x h plain may of old e = elim (Contains-push_cases n.made y x e) [
-  | inl was ↦ old was
-  | inr is ↦ (let same : x.version.origin ≡ of.1 = ap (λ (z : Item). z.version.origin) (sym is ∙ of.2) in let fits = of.3 in omega (arith, same, fits))
-]
-row_near n Pass x h plain may of old e = old e
+handle_bounded : (n : Network) (link : ℕ) (side : Side) (number : ℕ) (m : LinkMessage) (rest : List ManagementMessage) → Holds n → n.sent link side ≡ ToNeighbour m ∷ rest → IsBounded n → IsBounded (happens n (Handle link side number (ToNeighbour m) rest))
+handle_bounded n link side number (messages.Connect invoke joiner member) rest h first b = near_bounded n link side number (messages.Connect invoke joiner member) rest h first refl b
+handle_bounded n link side number (messages.ConnectR invoke denied) rest h first b = near_bounded n link side number (messages.ConnectR invoke denied) rest h first refl b
+handle_bounded n link side number (messages.Start invoke address) rest h first b = near_bounded n link side number (messages.Start invoke address) rest h first refl b
+handle_bounded n link side number (messages.StartR invoke) rest h first b = near_bounded n link side number (messages.StartR invoke) rest h first refl b
+handle_bounded n link side number (messages.Item x) rest h first b = record { counts = came_bounded n link side number x b; origins = same_near n b.origins }
+handle_bounded n link side number (messages.Stop invoke) rest h first b = near_bounded n link side number (messages.Stop invoke) rest h first refl b
+handle_bounded n link side number (messages.StopR invoke) rest h first b = near_bounded n link side number (messages.StopR invoke) rest h first refl b
+handle_bounded n link side number (messages.Flood x) rest h first b = record { counts = came_bounded n link side number x b; origins = same_near n b.origins }
 
 -- All rows
 
-rows_bounded : (n : Network) (rows : List Row) → Holds n → ArePlain n → IsRun n rows → AreOfStatic rows → IsBounded n → IsBounded (after_rows n rows)
-rows_bounded n [] h plain run of b = b
-rows_bounded n (row ∷ rows) h plain run of b =
-    rows_bounded (happens n row) rows (row_holds n row h run.0) (row_plain n row h plain run.0 (makes_no_link row of.0)) run.1 of.1 (record {
-      counts = λ i. row_few n row i plain run.0 of.0 (b.counts i);
-      origins = λ x e. row_near n row x h plain run.0 of.0 (b.origins x) e;
-    })
+lost_near : (n : Network) (i k : ℕ) (up : Bool) → Holds n → i < 2 ^ 32 → ((y : Item) → Contains n.made y → y.version.origin < 2 ^ 32) → (y : Item) → Contains (n.made ++ cond up (state_of_loss n i k ∷ []) []) y → y.version.origin < 2 ^ 32
+lost_near n i k true h fits near = one_near n i (state_of_loss n i k) h fits refl near
+lost_near n i k false h fits near = same_near n near
+
+row_bounded : (n : Network) (row : Row) → Holds n → May n row → IsOfDif row → IsBounded n → IsBounded (happens n row)
+row_bounded n (Make j key value) h may of b = record { counts = one_few n j _ (made_few (spent 1 (n.agents j).last_count) (n.agents j) n.now key value) b.counts; origins = one_near n j (own_item (n.agents j) n.now key value) h of.1 refl b.origins }
+row_bounded n (Put link side number m) h may of b = record { counts = one_few n (n.ends link side) _ (λ e. e) b.counts; origins = b.origins }
+row_bounded n (Take link side number m) h may of b = record { counts = one_few n (n.ends link side) _ (λ e. e) b.counts; origins = same_near n b.origins }
+row_bounded n (Handle link side number (ToNeighbour m) rest) h may of b = handle_bounded n link side number m rest h may.1 b
+row_bounded n (Handle link side number (ToMember m) rest) h may of b = record { counts = b.counts; origins = b.origins }
+row_bounded n (Lose link side number) h may of b =
+    let a = n.agents (n.ends link side) in
+    let up = was_up (find (is_numbered number) a.links) in
+    record { counts = one_few n (n.ends link side) _ (lost_few up (spent 1 a.last_count) a n.now number) b.counts; origins = lost_near n (n.ends link side) number up h (h.laid.fit link side) b.origins }
+row_bounded n (Leave link side number) h may of b = record { counts = b.counts; origins = b.origins }
+row_bounded n (Drop link side left) h may of b = record { counts = b.counts; origins = b.origins }
+row_bounded n (Enrol link side number i j member node) h may of b = record { counts = one_few n i _ (joined_few (spent 1 (n.agents i).last_invoke) (n.agents i) number member node) b.counts; origins = same_near n b.origins }
+row_bounded n (Claim link side number) h may of b = record { counts = one_few n (n.ends link side) _ (λ e. e) b.counts; origins = same_near n b.origins }
+row_bounded n (Know y) h may of b = record {
+  counts = λ i. (let few = b.counts i in let same = knower_count (is_enrolled (n.agents i)) y (n.agents i) in omega (arith, few, same));
+  origins = λ x e. elim (Contains-push_cases n.made y x e) [
+    | inl was ↦ b.origins x was
+    | inr is ↦ (let same : x.version.origin ≡ of.1 = ap (λ (z : Item). z.version.origin) (sym is ∙ of.2) in let fits = of.3 in omega (arith, same, fits))
+  ];
+}
+row_bounded n Pass h may of b = record { counts = b.counts; origins = b.origins }
+
+rows_bounded : (n : Network) (rows : List Row) → Holds n → IsRun n rows → AreOfDif rows → IsBounded n → IsBounded (after_rows n rows)
+rows_bounded n [] h run of b = b
+rows_bounded n (row ∷ rows) h run of b = rows_bounded (happens n row) rows (row_holds n row h run.0) run.1 of.1 (row_bounded n row h run.0 of.0 b)
 
 start_near : (is_static : Bool) (members : List Member) (plans : List LinkPlan) → IsLaidOut members plans → (x : Item) → Contains (start_items is_static members plans) x → x.version.origin < 2 ^ 32
 start_near is_static members plans laid x e =
@@ -145,13 +164,13 @@ start_near is_static members plans laid x e =
     omega (arith, fits, same)
 
 -- What waits fits, where the tick does
-module _ (is_static : Bool) (n : Network) (members : List Member) (plans : List LinkPlan) (rows : List Row) (laid : IsLaidOut members plans) (s : IsStart n (start_items is_static members plans)) (run : IsRun n rows) (of : AreOfStatic rows) (fresh : (i : ℕ) → (n.agents i).last_count ≡ 0) where
+module _ (is_static : Bool) (n : Network) (members : List Member) (plans : List LinkPlan) (rows : List Row) (laid : IsLaidOut members plans) (s : IsStart n (start_items is_static members plans)) (run : IsRun n rows) (of : AreOfDif rows) (fresh : (i : ℕ) → ((n.agents i).last_count ≡ 0) × ((n.agents i).last_invoke ≡ 0)) where
   abbrev end : Network
   end = after_rows n rows
 
   bounded : IsBounded end
-  bounded = rows_bounded n rows (begin_holds n (start_items is_static members plans) s) (start_plain n (start_items is_static members plans) s) run of (record {
-    counts = λ i. (let none = fresh i in omega (arith, none));
+  bounded = rows_bounded n rows (begin_holds n (start_items is_static members plans) s) run of (record {
+    counts = λ i. (let none = (fresh i).0 in omega (arith, none));
     origins = λ x e. (let P : List Item → Type 0 = λ items. Contains items x in start_near is_static members plans laid x (subst P s.made e));
   })
 
@@ -164,20 +183,13 @@ module _ (is_static : Bool) (n : Network) (members : List Member) (plans : List 
       let few = bounded.counts x.version.origin in
       (omega (arith, past, early), omega (arith, counted, few), bounded.origins x was)
 
-  near_fits : (l : ℕ) (d : Side) (m : LinkMessage) → end.now < 2 ^ 32 → is_plain (ToNeighbour m) ≡ true → Contains (unhandled end l d) (ToNeighbour m) → IsInRange m
-  near_fits l d (messages.Connect invoke joiner member) early plain e = absurd (both_ways true (sym plain) refl)
-  near_fits l d (messages.ConnectR invoke denied) early plain e = absurd (both_ways true (sym plain) refl)
-  near_fits l d (messages.Start invoke address) early plain e = absurd (both_ways true (sym plain) refl)
-  near_fits l d (messages.StartR invoke) early plain e = absurd (both_ways true (sym plain) refl)
-  near_fits l d (messages.Stop invoke) early plain e = absurd (both_ways true (sym plain) refl)
-  near_fits l d (messages.StopR invoke) early plain e = absurd (both_ways true (sym plain) refl)
-  near_fits l d (messages.Item x) early plain e = version_fits l d x early (flat_in carried (unhandled end l d) (ToNeighbour (messages.Item x)) x e (in_first x []))
-  near_fits l d (messages.Flood x) early plain e = version_fits l d x early (flat_in carried (unhandled end l d) (ToNeighbour (messages.Flood x)) x e (in_first x []))
-
-  -- a message that waits for a link
-  pub waiting_fits : (l : ℕ) (d : Side) (m : LinkMessage) → end.now < 2 ^ 32 → Contains (waiting_on (end.numbers l d) (end.agents (end.ends l d)).agenda) (ToNeighbour m) → IsInRange m
-  waiting_fits l d m early e =
-      let waits = Contains-append_right (end.sent l d) (waiting_on (end.numbers l d) (end.agents (end.ends l d)).agenda) (ToNeighbour m) e in
-      let static = static_rows rows of in
-      let plain = rows_plain n rows (begin_holds n (start_items is_static members plans) s) (start_plain n (start_items is_static members plans) s) run static.0 in
-      near_fits l d m early (plain l d (ToNeighbour m) waits) waits
+  -- an item on its way
+  pub item_fits : (l : ℕ) (d : Side) (m : LinkMessage) → end.now < 2 ^ 32 → is_plain (ToNeighbour m) ≡ true → Contains (unhandled end l d) (ToNeighbour m) → IsInRange m
+  item_fits l d (messages.Connect invoke joiner member) early plain e = absurd (both_ways true (sym plain) refl)
+  item_fits l d (messages.ConnectR invoke denied) early plain e = absurd (both_ways true (sym plain) refl)
+  item_fits l d (messages.Start invoke address) early plain e = absurd (both_ways true (sym plain) refl)
+  item_fits l d (messages.StartR invoke) early plain e = absurd (both_ways true (sym plain) refl)
+  item_fits l d (messages.Stop invoke) early plain e = absurd (both_ways true (sym plain) refl)
+  item_fits l d (messages.StopR invoke) early plain e = absurd (both_ways true (sym plain) refl)
+  item_fits l d (messages.Item x) early plain e = version_fits l d x early (flat_in carried (unhandled end l d) (ToNeighbour (messages.Item x)) x e (in_first x []))
+  item_fits l d (messages.Flood x) early plain e = version_fits l d x early (flat_in carried (unhandled end l d) (ToNeighbour (messages.Flood x)) x e (in_first x []))

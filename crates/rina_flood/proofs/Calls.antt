@@ -1,5 +1,5 @@
 -- What the calls of one member change in a network: its agent, and of the messages those of its own directions.
-use Rattle.std.proofs.Common.{◌≡◌, ℕ, ◌≤◌, ◌<◌, ◌⊎◌, true, ◌==◌, List, ◌∷◌, ◌++◌, Contains, refl, sym, ◌∙◌, ap, subst, inl, inr, arith, []}
+use Rattle.std.proofs.Common.{◌≡◌, ℕ, ◌≤◌, ◌<◌, ◌⊎◌, true, ◌==◌, List, ◌∷◌, ◌++◌, Contains, Option, None, refl, sym, ◌∙◌, ap, subst, inl, inr, arith, []}
 use Rattle.std.specs.Prelude.{find, is_some}
 use Rattle.std.proofs.lemmas.Bool.{cases_Bool, and_parts, and_from, eqb-true}
 use Rattle.std.proofs.lemmas.List.{append-nil}
@@ -11,7 +11,7 @@ use Rattle.rina_agent.specs.declared.link.Link.{Link}
 use Rattle.rina_agent.specs.declared.message.ManagementMessage.{ManagementMessage}
 use Rattle.rina_agent.specs.Enrolments.{is_numbered}
 use Rattle.rina_agent.specs.Rows.{was_up}
-use Rattle.rina_flood.specs.Network.{Side, other, Network, put_agent, put_offers, stands, is_up, has_link, AreApart}
+use Rattle.rina_flood.specs.Network.{Side, other, EndState, Unmade, There, Gone, Network, link_at, put_agent, put_offers, stands, is_up, has_link, AreApart}
 use Rattle.rina_flood.proofs.Holds.{IsLaid}
 use Rattle.rina_flood.proofs.Places.{put_case, is_equal}
 
@@ -32,6 +32,18 @@ pub record AreFewer (before after : List Link) : Type 0 where
 pub same_links : (links : List Link) → AreFewer links links
 same_links links = record { up = λ k e. e; has = λ k e. e; apart = λ a. a }
 
+-- what holds of the link of each number holds of that of an end
+pub at_state : (P : Option Link → Option Link → Type 0) (before after : List Link) → ((k : ℕ) → P (find (is_numbered k) before) (find (is_numbered k) after)) → P None None → (s : EndState) → P (link_at s before) (link_at s after)
+at_state P before after each none Unmade = none
+at_state P before after each none (There k) = each k
+at_state P before after each none Gone = none
+
+pub fewer_up : (before after : List Link) → AreFewer before after → (s : EndState) → was_up (link_at s after) ≡ true → was_up (link_at s before) ≡ true
+fewer_up before after f = at_state (λ a c. was_up c ≡ true → was_up a ≡ true) before after f.up (λ e. e)
+
+pub fewer_has : (before after : List Link) → AreFewer before after → (s : EndState) → is_some (link_at s after) ≡ true → is_some (link_at s before) ≡ true
+fewer_has before after f = at_state (λ a c. is_some c ≡ true → is_some a ≡ true) before after f.has (λ e. e)
+
 -- what holds of the agent of a member and of the new one
 pub at_place : (P : Agent → Agent → Type 0) (i : ℕ) (b : Agent) (agents : ℕ → Agent) (j : ℕ) → P (agents i) b → ((a : Agent) → P a a) → P (agents j) (put_agent i b agents j)
 at_place P i b agents j changed same = put_case (λ (c : Agent). P (agents j) c) j i b (agents j) (λ is. (let Q : ℕ → Type 0 = λ k. P (agents k) b in subst Q (sym is) changed)) (λ apart. same (agents j))
@@ -39,10 +51,10 @@ at_place P i b agents j changed same = put_case (λ (c : Agent). P (agents j) c)
 pub fewer_stand : (n : Network) (i : ℕ) (b : Agent) (sent : ℕ → Side → List ManagementMessage) → AreFewer (n.agents i).links b.links → (l : ℕ) (d : Side) → stands (record n { agents = put_agent i b n.agents; sent = sent }) l d ≡ true → stands n l d ≡ true
 fewer_stand n i b sent fewer l d e =
     let both = and_parts _ _ e in
-    let Up : Agent → Agent → Type 0 = λ a c. was_up (find (is_numbered (n.numbers l d)) c.links) ≡ true → was_up (find (is_numbered (n.numbers l d)) a.links) ≡ true in
-    let Has : Agent → Agent → Type 0 = λ a c. is_some (find (is_numbered (n.numbers l (other d))) c.links) ≡ true → is_some (find (is_numbered (n.numbers l (other d))) a.links) ≡ true in
-    let up = at_place Up i b n.agents (n.ends l d) (fewer.up (n.numbers l d)) (λ a u. u) both.0 in
-    let has = at_place Has i b n.agents (n.ends l (other d)) (fewer.has (n.numbers l (other d))) (λ a u. u) both.1 in
+    let Up : Agent → Agent → Type 0 = λ a c. was_up (link_at (n.states l d) c.links) ≡ true → was_up (link_at (n.states l d) a.links) ≡ true in
+    let Has : Agent → Agent → Type 0 = λ a c. is_some (link_at (n.states l (other d)) c.links) ≡ true → is_some (link_at (n.states l (other d)) a.links) ≡ true in
+    let up = at_place Up i b n.agents (n.ends l d) (fewer_up (n.agents i).links b.links fewer (n.states l d)) (λ a u. u) both.0 in
+    let has = at_place Has i b n.agents (n.ends l (other d)) (fewer_has (n.agents i).links b.links fewer (n.states l (other d))) (λ a u. u) both.1 in
     and_from (is_up n l d) (has_link n l (other d)) up has
 
 -- addresses and links stay as they must be

@@ -14,65 +14,69 @@ use Rattle.rina_agent.specs.declared.message.ManagementMessage.{ManagementMessag
 use Rattle.rina_agent.specs.declared.message.ManagementMessage.TheVariants.{ToNeighbour}
 use Rattle.rina_agent.specs.declared.message.Waiting.{Waiting}
 use Rattle.rina_agent.specs.declared.state.AgentError.{AgentError}
-use Rattle.rina_agent.specs.Agenda.{near, waiting_on}
+use Rattle.rina_agent.specs.Agenda.{near}
 use Rattle.rina_agent.specs.Counts.{next_of, spent, unless}
-use Rattle.rina_agent.specs.Enrolled.{Handles, done}
+use Rattle.rina_agent.specs.Enrolled.{done}
 use Rattle.rina_agent.specs.Enrolments.{hears, place_of}
-use Rattle.rina_agent.specs.Rows.{connected_as, connected_by, denial, allowed_as, allowed_by, denied_by, noted_by}
-use Rattle.rina_flood.specs.Network.{Network, put_agent, put_offers, carried, called}
+use Rattle.rina_agent.specs.Neighbours.{link_state}
+use Rattle.rina_agent.specs.Rows.{connected_as, connected_by, allowed_as, allowed_by, denied_by, noted_by}
+use Rattle.rina_flood.specs.Network.{EndState, Network, waiting_at, put_agent, put_offers, carried}
 use Rattle.rina_flood.proofs.Calls.{AreFewer, at_place}
-use Rattle.rina_flood.proofs.Heard.{IsHeard, is_heard, placed, found_number, set_fewer}
+use Rattle.rina_flood.proofs.Heard.{IsHeard, heard_text, is_heard, placed, found_number, set_fewer}
 use Rattle.rina_flood.proofs.Holds.{Holds}
-use Rattle.rina_flood.proofs.Messages.{waits_from, waits_old, front_is}
+use Rattle.rina_flood.proofs.Messages.{from_at, old_at, front_at}
 use Rattle.rina_flood.proofs.Places.{nothing_in}
-use Rattle.rina_flood.proofs.Runs.{IsSame, the_same, put_same, IsMoving, moving_holds, quiet_holds}
+use Rattle.rina_flood.proofs.Runs.{none_waits, IsSame, the_same, put_same, IsMoving, moving_holds, quiet_holds}
 
--- An agent keeps the same items, and new messages carry none
+-- An agent keeps the same items, its link state would say the same, and new messages carry no item
 pub record IsQuiet (a b : Agent) : Type 0 where
   pub same : IsSame a b
-  pub follows : (k : ℕ) (m : ManagementMessage) → Contains (waiting_on k b.agenda) m → Contains (waiting_on k a.agenda) m ⊎ (carried m ≡ [])
-  pub remains : (k : ℕ) (m : ManagementMessage) → Contains (waiting_on k a.agenda) m → Contains (waiting_on k b.agenda) m
+  pub text : link_state None b.links ≡ link_state None a.links
+  pub follows : (k : EndState) (m : ManagementMessage) → Contains (waiting_at k b.agenda) m → Contains (waiting_at k a.agenda) m ⊎ (carried m ≡ [])
+  pub remains : (k : EndState) (m : ManagementMessage) → Contains (waiting_at k a.agenda) m → Contains (waiting_at k b.agenda) m
 
 pub nothing_quiet : (a : Agent) → IsQuiet a a
-nothing_quiet a = record { same = the_same a; follows = λ k m e. inl e; remains = λ k m e. e }
+nothing_quiet a = record { same = the_same a; text = refl; follows = λ k m e. inl e; remains = λ k m e. e }
 
-pub same_quiet : (a b : Agent) → IsSame a b → b.agenda ≡ a.agenda → IsQuiet a b
-same_quiet a b same agenda = record {
+pub same_quiet : (a b : Agent) → IsSame a b → link_state None b.links ≡ link_state None a.links → b.agenda ≡ a.agenda → IsQuiet a b
+same_quiet a b same text agenda = record {
   same = same;
-  follows = λ k m e. (let P : List Waiting → Type 0 = λ ws. Contains (waiting_on k ws) m in inl (subst P agenda e));
-  remains = λ k m e. (let P : List Waiting → Type 0 = λ ws. Contains (waiting_on k ws) m in subst P (sym agenda) e);
+  text = text;
+  follows = λ k m e. (let P : List Waiting → Type 0 = λ ws. Contains (waiting_at k ws) m in inl (subst P agenda e));
+  remains = λ k m e. (let P : List Waiting → Type 0 = λ ws. Contains (waiting_at k ws) m in subst P (sym agenda) e);
 }
 
-pub put_quiet : (a b : Agent) (w : Waiting) → IsSame a b → b.agenda ≡ a.agenda ++ w ∷ [] → carried w.message ≡ [] → IsQuiet a b
-put_quiet a b w same agenda empty = record {
+pub put_quiet : (a b : Agent) (w : Waiting) → IsSame a b → link_state None b.links ≡ link_state None a.links → b.agenda ≡ a.agenda ++ w ∷ [] → carried w.message ≡ [] → IsQuiet a b
+put_quiet a b w same text agenda empty = record {
   same = same;
+  text = text;
   follows = λ k m e.
-      (let P : List Waiting → Type 0 = λ ws. Contains (waiting_on k ws) m in
-      elim (waits_from k a.agenda (w ∷ []) m (subst P agenda e)) [
+      (let P : List Waiting → Type 0 = λ ws. Contains (waiting_at k ws) m in
+      elim (from_at k a.agenda (w ∷ []) m (subst P agenda e)) [
         | inl old ↦ inl old
-        | inr new ↦ elim (front_is k w [] m new) [
+        | inr new ↦ elim (front_at k w [] m new) [
           | inl is ↦ (let Q : ManagementMessage → Type 0 = λ z. carried z ≡ [] in inr (subst Q is empty))
-          | inr none ↦ absurd (nothing_in m none)
+          | inr none ↦ absurd (none_waits k m none)
         ]
       ]);
-  remains = λ k m e. (let P : List Waiting → Type 0 = λ ws. Contains (waiting_on k ws) m in subst P (sym agenda) (waits_old k a.agenda (w ∷ []) m e));
+  remains = λ k m e. (let P : List Waiting → Type 0 = λ ws. Contains (waiting_at k ws) m in subst P (sym agenda) (old_at k a.agenda (w ∷ []) m e));
 }
 
 quiet_moving : (n : Network) (i : ℕ) (b : Agent) → IsQuiet (n.agents i) b → IsMoving n (put_agent i b n.agents) n.sent
 quiet_moving n i b q = record {
   same = put_same i b n.agents q.same;
   plain = false;
-  follows = λ l d m e. elim (Contains-append_cases (n.sent l d) (waiting_on (n.numbers l d) (put_agent i b n.agents (n.ends l d)).agenda) m e) [
-    | inl flies ↦ inl (Contains-append_left (n.sent l d) (waiting_on (n.numbers l d) (n.agents (n.ends l d)).agenda) m flies)
-    | inr waits ↦ elim (at_place (λ a c. Contains (waiting_on (n.numbers l d) c.agenda) m → Contains (waiting_on (n.numbers l d) a.agenda) m ⊎ (carried m ≡ [])) i b n.agents (n.ends l d) (q.follows (n.numbers l d) m) (λ a w. inl w) waits) [
-      | inl old ↦ inl (Contains-append_right (n.sent l d) (waiting_on (n.numbers l d) (n.agents (n.ends l d)).agenda) m old)
+  follows = λ l d m e. elim (Contains-append_cases (n.sent l d) (waiting_at (n.states l d) (put_agent i b n.agents (n.ends l d)).agenda) m e) [
+    | inl flies ↦ inl (Contains-append_left (n.sent l d) (waiting_at (n.states l d) (n.agents (n.ends l d)).agenda) m flies)
+    | inr waits ↦ elim (at_place (λ a c. Contains (waiting_at (n.states l d) c.agenda) m → Contains (waiting_at (n.states l d) a.agenda) m ⊎ (carried m ≡ [])) i b n.agents (n.ends l d) (q.follows (n.states l d) m) (λ a w. inl w) waits) [
+      | inl old ↦ inl (Contains-append_right (n.sent l d) (waiting_at (n.states l d) (n.agents (n.ends l d)).agenda) m old)
       | inr empty ↦ inr (empty, λ t. absurd (both_ways true (sym t) refl))
     ]
   ];
-  remains = λ l d m up e. elim (Contains-append_cases (n.sent l d) (waiting_on (n.numbers l d) (n.agents (n.ends l d)).agenda) m e) [
-    | inl flies ↦ inl (Contains-append_left (n.sent l d) (waiting_on (n.numbers l d) (put_agent i b n.agents (n.ends l d)).agenda) m flies)
-    | inr waits ↦ inl (Contains-append_right (n.sent l d) (waiting_on (n.numbers l d) (put_agent i b n.agents (n.ends l d)).agenda) m
-        (at_place (λ a c. Contains (waiting_on (n.numbers l d) a.agenda) m → Contains (waiting_on (n.numbers l d) c.agenda) m) i b n.agents (n.ends l d) (q.remains (n.numbers l d) m) (λ a w. w) waits))
+  remains = λ l d m up e. elim (Contains-append_cases (n.sent l d) (waiting_at (n.states l d) (n.agents (n.ends l d)).agenda) m e) [
+    | inl flies ↦ inl (Contains-append_left (n.sent l d) (waiting_at (n.states l d) (put_agent i b n.agents (n.ends l d)).agenda) m flies)
+    | inr waits ↦ inl (Contains-append_right (n.sent l d) (waiting_at (n.states l d) (put_agent i b n.agents (n.ends l d)).agenda) m
+        (at_place (λ a c. Contains (waiting_at (n.states l d) a.agenda) m → Contains (waiting_at (n.states l d) c.agenda) m) i b n.agents (n.ends l d) (q.remains (n.states l d) m) (λ a w. w) waits))
   ];
 }
 
@@ -90,12 +94,12 @@ heard_fewer links k at becomes q =
 connect_as : (d : EnrolDo) (a : Agent) (k : ℕ) (m reply : LinkMessage) (replies : List LinkMessage) (event : EnrolEvent) (h : _) → hears a.links k m replies event ≡ Some h → carried (ToNeighbour reply) ≡ [] → IsQuiet a (connected_as d a h reply)
 connect_as does.Nothing a k m reply replies event h is empty = nothing_quiet a
 connect_as (does.ConnectR denied) a k m reply replies event h is empty =
-    put_quiet a (record a { links = slice_set a.links h.at h.link; agenda = a.agenda ++ near h.link.number reply ∷ [] }) (near h.link.number reply) (record { items = refl; address = refl; count = refl; fewer = heard_fewer a.links k h.at h.link (is_heard a.links k m replies event h is) }) refl empty
+    put_quiet a (record a { links = slice_set a.links h.at h.link; agenda = a.agenda ++ near h.link.number reply ∷ [] }) (near h.link.number reply) (record { items = refl; address = refl; count = refl; fewer = heard_fewer a.links k h.at h.link (is_heard a.links k m replies event h is) }) (heard_text a.links k h.at h.link (is_heard a.links k m replies event h is)) refl empty
 connect_as does.Start a k m reply replies event h is empty = nothing_quiet a
 connect_as does.StartR a k m reply replies event h is empty = nothing_quiet a
 connect_as does.StopR a k m reply replies event h is empty = nothing_quiet a
 
-connect_by : (a : Agent) (k : ℕ) (m reply : LinkMessage) (replies : List LinkMessage) (event : EnrolEvent) (o : _) → hears a.links k m replies event ≡ o → carried (ToNeighbour reply) ≡ [] → IsQuiet a (connected_by a reply o)
+pub connect_by : (a : Agent) (k : ℕ) (m reply : LinkMessage) (replies : List LinkMessage) (event : EnrolEvent) (o : _) → hears a.links k m replies event ≡ o → carried (ToNeighbour reply) ≡ [] → IsQuiet a (connected_by a reply o)
 connect_by a k m reply replies event None is empty = nothing_quiet a
 connect_by a k m reply replies event (Some h) is empty = connect_as h.does a k m reply replies event h is empty
 
@@ -109,46 +113,19 @@ allow_as does.Nothing a k m start replies event h is empty = nothing_quiet a
 allow_as (does.ConnectR denied) a k m start replies event h is empty = nothing_quiet a
 allow_as does.Start a k m start replies event h is empty =
     let b = record a { last_invoke = next_of a.last_invoke; links = slice_set a.links h.at h.link; agenda = a.agenda ++ near h.link.number start ∷ [] } in
-    allow_unless (spent 1 a.last_invoke) a b (put_quiet a b (near h.link.number start) (record { items = refl; address = refl; count = refl; fewer = heard_fewer a.links k h.at h.link (is_heard a.links k m replies event h is) }) refl empty)
+    allow_unless (spent 1 a.last_invoke) a b (put_quiet a b (near h.link.number start) (record { items = refl; address = refl; count = refl; fewer = heard_fewer a.links k h.at h.link (is_heard a.links k m replies event h is) }) (heard_text a.links k h.at h.link (is_heard a.links k m replies event h is)) refl empty)
 allow_as does.StartR a k m start replies event h is empty = nothing_quiet a
 allow_as does.StopR a k m start replies event h is empty = nothing_quiet a
 
-allow_by : (a : Agent) (k : ℕ) (m start : LinkMessage) (replies : List LinkMessage) (event : EnrolEvent) (o : _) → hears a.links k m replies event ≡ o → carried (ToNeighbour start) ≡ [] → IsQuiet a (done a (allowed_by a start o))
+pub allow_by : (a : Agent) (k : ℕ) (m start : LinkMessage) (replies : List LinkMessage) (event : EnrolEvent) (o : _) → hears a.links k m replies event ≡ o → carried (ToNeighbour start) ≡ [] → IsQuiet a (done a (allowed_by a start o))
 allow_by a k m start replies event None is empty = nothing_quiet a
 allow_by a k m start replies event (Some h) is empty = allow_as h.does a k m start replies event h is empty
 
-deny_by : (a : Agent) (k link rule : ℕ) (m : LinkMessage) (replies : List LinkMessage) (event : EnrolEvent) (o : _) → hears a.links k m replies event ≡ o → IsQuiet a (denied_by a link rule o)
+pub deny_by : (a : Agent) (k link rule : ℕ) (m : LinkMessage) (replies : List LinkMessage) (event : EnrolEvent) (o : _) → hears a.links k m replies event ≡ o → IsQuiet a (denied_by a link rule o)
 deny_by a k link rule m replies event None is = nothing_quiet a
-deny_by a k link rule m replies event (Some h) is = same_quiet a (denied_by a link rule (Some h)) (record { items = refl; address = refl; count = refl; fewer = heard_fewer a.links k h.at h.link (is_heard a.links k m replies event h is) }) refl
+deny_by a k link rule m replies event (Some h) is = same_quiet a (denied_by a link rule (Some h)) (record { items = refl; address = refl; count = refl; fewer = heard_fewer a.links k h.at h.link (is_heard a.links k m replies event h is) }) (heard_text a.links k h.at h.link (is_heard a.links k m replies event h is)) refl
 
 -- START_R and STOP_R
-note_by : (a : Agent) (k : ℕ) (m : LinkMessage) (replies : List LinkMessage) (event : EnrolEvent) (o : _) → hears a.links k m replies event ≡ o → IsQuiet a (noted_by a o)
+pub note_by : (a : Agent) (k : ℕ) (m : LinkMessage) (replies : List LinkMessage) (event : EnrolEvent) (o : _) → hears a.links k m replies event ≡ o → IsQuiet a (noted_by a o)
 note_by a k m replies event None is = nothing_quiet a
-note_by a k m replies event (Some h) is = same_quiet a (noted_by a (Some h)) (record { items = refl; address = refl; count = refl; fewer = heard_fewer a.links k h.at h.link (is_heard a.links k m replies event h is) }) refl
-
-pub connect_holds : (n : Network) (i k invoke : ℕ) (joiner member : List ℕ) → Holds n → Holds (called n i (Handles n.now k (messages.Connect invoke joiner member)))
-connect_holds n i k invoke joiner member h =
-    let a = n.agents i in
-    let reply = messages.ConnectR invoke (denial a joiner) in
-    quiet_called n i _ (connect_by a k (messages.Connect invoke joiner member) reply (reply ∷ []) (events.Connect (denial a joiner)) (hears a.links k (messages.Connect invoke joiner member) (reply ∷ []) (events.Connect (denial a joiner))) refl refl) h
-
-pub allow_holds : (n : Network) (i k invoke : ℕ) → Holds n → Holds (called n i (Handles n.now k (messages.ConnectR invoke None)))
-allow_holds n i k invoke h =
-    let a = n.agents i in
-    let start = messages.Start (next_of a.last_invoke) a.address in
-    quiet_called n i _ (allow_by a k (messages.ConnectR invoke None) start (start ∷ []) (events.ConnectR None) (hears a.links k (messages.ConnectR invoke None) (start ∷ []) (events.ConnectR None)) refl refl) h
-
-pub deny_holds : (n : Network) (i k invoke rule : ℕ) → Holds n → Holds (called n i (Handles n.now k (messages.ConnectR invoke (Some rule))))
-deny_holds n i k invoke rule h =
-    let a = n.agents i in
-    quiet_called n i _ (deny_by a k k rule (messages.ConnectR invoke (Some rule)) [] (events.ConnectR (Some rule)) (hears a.links k (messages.ConnectR invoke (Some rule)) [] (events.ConnectR (Some rule))) refl) h
-
-pub start_r_holds : (n : Network) (i k invoke : ℕ) → Holds n → Holds (called n i (Handles n.now k (messages.StartR invoke)))
-start_r_holds n i k invoke h =
-    let a = n.agents i in
-    quiet_called n i _ (note_by a k (messages.StartR invoke) [] events.StartR (hears a.links k (messages.StartR invoke) [] events.StartR) refl) h
-
-pub stop_r_holds : (n : Network) (i k invoke : ℕ) → Holds n → Holds (called n i (Handles n.now k (messages.StopR invoke)))
-stop_r_holds n i k invoke h =
-    let a = n.agents i in
-    quiet_called n i _ (note_by a k (messages.StopR invoke) [] events.StopR (hears a.links k (messages.StopR invoke) [] events.StopR) refl) h
+note_by a k m replies event (Some h) is = same_quiet a (noted_by a (Some h)) (record { items = refl; address = refl; count = refl; fewer = heard_fewer a.links k h.at h.link (is_heard a.links k m replies event h is) }) (heard_text a.links k h.at h.link (is_heard a.links k m replies event h is)) refl

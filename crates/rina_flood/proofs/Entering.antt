@@ -1,5 +1,5 @@
 -- START and STOP: a link comes up, and its member makes its link state.
-use Rattle.std.proofs.Common.{◌≡◌, ℕ, ◌<◌, ◌⊎◌, true, ◌==◌, List, [], ◌∷◌, ◌++◌, map, Contains, slice_set, Option, Some, None, Result, refl, sym, ◌∙◌, ap, subst, inl, inr, arith}
+use Rattle.std.proofs.Common.{◌≡◌, ℕ, ◌<◌, ◌^◌, ◌⊎◌, true, ◌==◌, List, [], ◌∷◌, ◌++◌, map, Contains, slice_set, Option, Some, None, Result, refl, sym, ◌∙◌, ap, subst, inl, inr, arith}
 use Rattle.std.specs.Prelude.{find, is_some}
 use Rattle.std.proofs.lemmas.Bool.{cases_Bool, both_ways, eqb-true, eq-eqb}
 use Rattle.rina_enrol.specs.declared.event.EnrolDo.{EnrolDo}
@@ -18,15 +18,16 @@ use Rattle.rina_agent.specs.Agenda.{near, item_on, waiting_on}
 use Rattle.rina_agent.specs.Counts.{next_of, spent, unless}
 use Rattle.rina_agent.specs.Enrolled.{Handles, done}
 use Rattle.rina_agent.specs.Enrolments.{hears, is_numbered, place_of}
-use Rattle.rina_agent.specs.Items.{stated}
-use Rattle.rina_agent.specs.Neighbours.{link_key, link_state}
+use Rattle.rina_agent.specs.Items.{made, own_item, stated}
+use Rattle.rina_agent.specs.Neighbours.{link_key, link_state, member_key}
 use Rattle.rina_agent.specs.Rows.{either, start_batch, started, started_as, started_by, stop_batch, up_link, was_up}
 use Rattle.rina_member.proofs.Losing.{counts_on}
 use Rattle.rina_flood.specs.Network.{Network, put_agent, put_offers, carried, called, AreApart, if_counted, last_state}
 use Rattle.rina_flood.proofs.Calls.{at_itself}
-use Rattle.rina_flood.proofs.Enrolling.{nothing_quiet, quiet_called}
+use Rattle.rina_flood.proofs.Enrolling.{quiet_called}
 use Rattle.rina_flood.proofs.Heard.{IsHeard, is_heard, placed, found_number, set_link, set_up, set_has, set_apart}
 use Rattle.rina_flood.proofs.Holds.{Holds}
+use Rattle.rina_flood.proofs.Keeping.{IsKept, made_network, put_twice, same_network, with_items}
 use Rattle.rina_flood.proofs.Messages.{front_is, first_waits_there, rest_waits, waits_from, waits_old}
 use Rattle.rina_flood.proofs.Places.{nothing_in, in_cons, in_one, in_first, in_rest}
 use Rattle.rina_flood.proofs.Raise.{IsRaised, raise_holds}
@@ -142,12 +143,6 @@ state_own n i a is address may =
     let P : Agent → Type 0 = λ c. IsOwn n i (stated None c n.now) n.sent (last_state (stated None c n.now) n.now) (λ k. ⊥) in
     subst P is (made_own n i (link_key (n.agents i).address) (Some (link_state None (n.agents i).links)) address may)
 
-pub put_twice : (i : ℕ) (b c : Agent) (agents : ℕ → Agent) (j : ℕ) → put_agent i b agents j ≡ put_agent i b (put_agent i c agents) j
-put_twice i b c agents j = elim (cases_Bool (j == i)) [ inl e ↦ rw e refl | inr e ↦ rw e refl ]
-
-abbrev pub with_items : Network → ℕ → Agent → List Item → Network
-with_items n i b items = record n { agents = put_agent i b n.agents; made = n.made ++ items; offered = put_offers i items n.offered }
-
 pub raised_states : (n : Network) (i : ℕ) (a : Agent) (k : ℕ) (batch : List Waiting) → IsRaised (n.agents i) a k batch → spent 1 (n.agents i).last_count ≡ None → Holds n → Holds (with_items n i (stated None a n.now) (last_state (stated None a n.now) n.now ∷ []))
 raised_states n i a k batch r may h =
     let g = raise_holds n i a k batch r h in
@@ -159,23 +154,17 @@ raised_states n i a k batch r may h =
     let end = own_holds up i b n.sent x (λ j. ⊥) (state_sound up i a mine) (state_own up i a mine (g.laid.addresses i) may_still) g in
     alike_holds (record up { agents = put_agent i b up.agents; made = n.made ++ x ∷ []; offered = put_offers i (x ∷ []) n.offered }) (put_agent i b n.agents) (n.made ++ x ∷ []) (put_offers i (x ∷ []) n.offered) (put_twice i b a n.agents) refl (λ j. refl) end
 
--- the counter went on
-counted_on : (a b : Agent) (items : List Item) → a.last_count < b.last_count → if_counted a b items ≡ items
-counted_on a b items lt = elim (cases_Bool (b.last_count == a.last_count)) [
-  | inl is ↦ (let same = eqb-true b.last_count a.last_count is in absurd (omega (arith, same, lt)))
-  | inr isnt ↦ rw isnt refl
-]
+-- What holds of networks all
 
-stayed : (a : Agent) (items : List Item) → if_counted a a items ≡ []
-stayed a items = (let is = eq-eqb a.last_count a.last_count refl in rw is refl)
-
-pub same_network : (n : Network) (i : ℕ) (items : List Item) → Holds n → Holds (with_items n i (n.agents i) (if_counted (n.agents i) (n.agents i) items))
-same_network n i items h =
-    let P : List Item → Type 0 = λ xs. Holds (with_items n i (n.agents i) xs) in
-    subst P (sym (stayed (n.agents i) items)) (quiet_called n i (n.agents i) (nothing_quiet (n.agents i)) h)
-
-pub made_network : (n : Network) (i : ℕ) (b : Agent) (items : List Item) → (n.agents i).last_count < b.last_count → Holds (with_items n i b items) → Holds (with_items n i b (if_counted (n.agents i) b items))
-made_network n i b items lt h = (let P : List Item → Type 0 = λ xs. Holds (with_items n i b xs) in subst P (sym (counted_on (n.agents i) b items lt)) h)
+pub holds_kept : IsKept Holds
+holds_kept = record {
+  quiet = quiet_called;
+  introduces = λ n i fits may h.
+      (let key = member_key (n.agents i).address in
+      let value = Some (n.agents i).node in
+      own_holds n i (made None (n.agents i) n.now key value) n.sent (own_item (n.agents i) n.now key value) (λ j. ⊥) (made_sound n i key value) (made_own n i key value (h.laid.addresses i) may) h);
+  raises = λ n i k a batch fits r may h. raised_states n i a k batch r may h;
+}
 
 -- START
 
@@ -186,32 +175,33 @@ either_none : (x y : Option AgentError) → either x y ≡ None → x ≡ None
 either_none None y e = refl
 either_none (Some r) y e = e
 
-start_unless : (n : Network) (i k invoke address : ℕ) (m : LinkMessage) (replies : List LinkMessage) (h : _) → hears (n.agents i).links k m replies events.Start ≡ Some h → (o : Option AgentError) → either (spent 1 (n.agents i).last_count) (spent 1 (n.agents i).last_invoke) ≡ o → Holds n
-    → Holds (start_network n i (unless o (started (n.agents i) n.now h invoke address)))
-start_unless n i k invoke address m replies h is (Some e) o holds = same_network n i _ holds
-start_unless n i k invoke address m replies h is None o holds =
-    let a = n.agents i in
-    let q = is_heard a.links k m replies events.Start h is in
-    let stop = next_of a.last_invoke in
-    let batch = start_batch h.link.number invoke a.items stop in
-    let b : Agent = record a { last_invoke = stop; links = slice_set a.links h.at (up_link (Some address) h.link); agenda = a.agenda ++ batch } in
-    let may = either_none (spent 1 a.last_count) (spent 1 a.last_invoke) o in
-    let r = is_raised a k h.at h.link (Some address) batch q b refl refl refl refl refl (start_all h.link.number invoke stop a.items) (λ j m y. start_only j h.link.number invoke stop a.items m y) in
-    made_network n i (stated None b n.now) (last_state (stated None b n.now) n.now ∷ []) (counts_on a.last_count may) (raised_states n i b h.link.number batch r may holds)
+module _ (P : Network → Type 0) (kept : IsKept P) where
+  start_unless : (n : Network) (i k invoke address : ℕ) (m : LinkMessage) (replies : List LinkMessage) (h : _) → hears (n.agents i).links k m replies events.Start ≡ Some h → (o : Option AgentError) → either (spent 1 (n.agents i).last_count) (spent 1 (n.agents i).last_invoke) ≡ o → i < 2 ^ 32 → P n
+      → P (start_network n i (unless o (started (n.agents i) n.now h invoke address)))
+  start_unless n i k invoke address m replies h is (Some e) o fits holds = same_network P kept n i _ holds
+  start_unless n i k invoke address m replies h is None o fits holds =
+      let a = n.agents i in
+      let q = is_heard a.links k m replies events.Start h is in
+      let stop = next_of a.last_invoke in
+      let batch = start_batch h.link.number invoke a.items stop in
+      let b : Agent = record a { last_invoke = stop; links = slice_set a.links h.at (up_link (Some address) h.link); agenda = a.agenda ++ batch } in
+      let may = either_none (spent 1 a.last_count) (spent 1 a.last_invoke) o in
+      let r = is_raised a k h.at h.link (Some address) batch q b refl refl refl refl refl (start_all h.link.number invoke stop a.items) (λ j m y. start_only j h.link.number invoke stop a.items m y) in
+      made_network P n i (stated None b n.now) (last_state (stated None b n.now) n.now ∷ []) (counts_on a.last_count may) (kept.raises n i h.link.number b batch fits r may holds)
 
-start_as : (d : EnrolDo) (n : Network) (i k invoke address : ℕ) (m : LinkMessage) (replies : List LinkMessage) (h : _) → hears (n.agents i).links k m replies events.Start ≡ Some h → Holds n → Holds (start_network n i (started_as d (n.agents i) n.now h invoke address))
-start_as does.Nothing n i k invoke address m replies h is holds = same_network n i _ holds
-start_as (does.ConnectR denied) n i k invoke address m replies h is holds = same_network n i _ holds
-start_as does.Start n i k invoke address m replies h is holds = same_network n i _ holds
-start_as does.StartR n i k invoke address m replies h is holds = start_unless n i k invoke address m replies h is (either (spent 1 (n.agents i).last_count) (spent 1 (n.agents i).last_invoke)) refl holds
-start_as does.StopR n i k invoke address m replies h is holds = same_network n i _ holds
+  start_as : (d : EnrolDo) (n : Network) (i k invoke address : ℕ) (m : LinkMessage) (replies : List LinkMessage) (h : _) → hears (n.agents i).links k m replies events.Start ≡ Some h → i < 2 ^ 32 → P n → P (start_network n i (started_as d (n.agents i) n.now h invoke address))
+  start_as does.Nothing n i k invoke address m replies h is fits holds = same_network P kept n i _ holds
+  start_as (does.ConnectR denied) n i k invoke address m replies h is fits holds = same_network P kept n i _ holds
+  start_as does.Start n i k invoke address m replies h is fits holds = same_network P kept n i _ holds
+  start_as does.StartR n i k invoke address m replies h is fits holds = start_unless n i k invoke address m replies h is (either (spent 1 (n.agents i).last_count) (spent 1 (n.agents i).last_invoke)) refl fits holds
+  start_as does.StopR n i k invoke address m replies h is fits holds = same_network P kept n i _ holds
 
-start_by : (n : Network) (i k invoke address : ℕ) (m : LinkMessage) (replies : List LinkMessage) (o : _) → hears (n.agents i).links k m replies events.Start ≡ o → Holds n → Holds (start_network n i (started_by (n.agents i) n.now invoke address o))
-start_by n i k invoke address m replies None is holds = same_network n i _ holds
-start_by n i k invoke address m replies (Some h) is holds = start_as h.does n i k invoke address m replies h is holds
+  start_by : (n : Network) (i k invoke address : ℕ) (m : LinkMessage) (replies : List LinkMessage) (o : _) → hears (n.agents i).links k m replies events.Start ≡ o → i < 2 ^ 32 → P n → P (start_network n i (started_by (n.agents i) n.now invoke address o))
+  start_by n i k invoke address m replies None is fits holds = same_network P kept n i _ holds
+  start_by n i k invoke address m replies (Some h) is fits holds = start_as h.does n i k invoke address m replies h is fits holds
 
-pub start_holds : (n : Network) (i k invoke address : ℕ) → Holds n → Holds (called n i (Handles n.now k (messages.Start invoke address)))
-start_holds n i k invoke address h =
-    let a = n.agents i in
-    let replies = messages.StartR invoke ∷ messages.Stop (next_of a.last_invoke) ∷ [] in
-    start_by n i k invoke address (messages.Start invoke address) replies (hears a.links k (messages.Start invoke address) replies events.Start) refl h
+  pub start_keeps : (n : Network) (i k invoke address : ℕ) → i < 2 ^ 32 → P n → P (called n i (Handles n.now k (messages.Start invoke address)))
+  start_keeps n i k invoke address fits h =
+      let a = n.agents i in
+      let replies = messages.StartR invoke ∷ messages.Stop (next_of a.last_invoke) ∷ [] in
+      start_by n i k invoke address (messages.Start invoke address) replies (hears a.links k (messages.Start invoke address) replies events.Start) refl fits h

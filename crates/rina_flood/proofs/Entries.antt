@@ -1,9 +1,9 @@
--- What is made where only the rows of a static DIF happen.
-use Rattle.std.proofs.Common.{◌≡◌, ℕ, ◌⊎◌, Bool, true, false, cond, nat_eq, List, ◌∷◌, ◌++◌, Contains, Some, refl, ◌≤◌, arith, sym, ◌∙◌, ap, subst, inl, inr, []}
+-- What is made where only the rows of a DIF happen.
+use Rattle.std.proofs.Common.{◌≡◌, ℕ, ◌⊎◌, Bool, true, false, cond, nat_eq, List, ◌∷◌, ◌++◌, Contains, None, Some, refl, ◌≤◌, arith, sym, ◌∙◌, ap, subst, inl, inr, []}
 use Rattle.std.specs.Prelude.{codes, find}
 use Rattle.std.specs.Fmt.{decimal}
 use Rattle.std.specs.List.{starts_with}
-use Rattle.std.proofs.lemmas.Bool.{both_ways, false≢true}
+use Rattle.std.proofs.lemmas.Bool.{false≢true}
 use Rattle.std.proofs.lemmas.List.{append-nil}
 use Rattle.std.proofs.lemmas.List.Elements.{Contains-push_cases}
 use Rattle.rina_enrol.specs.declared.message.LinkMessage.{LinkMessage}
@@ -15,7 +15,7 @@ use Rattle.rina_agent.specs.declared.message.ManagementMessage.{ManagementMessag
 use Rattle.rina_agent.specs.declared.message.ManagementMessage.TheVariants.{ToNeighbour, ToMember}
 use Rattle.rina_agent.specs.Enrolments.{is_numbered}
 use Rattle.rina_agent.specs.Counts.{next_of}
-use Rattle.rina_agent.specs.Items.{own_item}
+use Rattle.rina_agent.specs.Items.{own_item, stated}
 use Rattle.rina_agent.specs.Neighbours.{link_key, link_state, member_key}
 use Rattle.rina_agent.specs.Rows.{was_up}
 use Rattle.rina_plan.specs.declared.dif.LinkPlan.{LinkPlan}
@@ -24,50 +24,32 @@ use Rattle.rina_member.specs.Knowing.{IsEntryKey}
 use Rattle.rina_member.specs.Managements.{entry_of}
 use Rattle.rina_member.specs.Start.{first_version, start_items}
 use Rattle.rina_member.proofs.Items.{entry_not_link}
-use Rattle.rina_flood.specs.Network.{Side, Network, Row, Make, Put, Take, Handle, Lose, Drop, Know, Pass, Enrol, Claim, happens, May, IsRun, after_rows, IsStart}
-use Rattle.rina_flood.specs.Laws.{LeavesLinkState, AllLeaveLinkState, MakesNoLink, IsStatic}
-use Rattle.rina_flood.specs.Static.{IsFirstEntry, IsOfStatic, AreOfStatic}
-use Rattle.rina_flood.proofs.All.{row_holds, begin_holds}
-use Rattle.rina_flood.proofs.Holds.{is_plain, ArePlain, Holds}
-use Rattle.rina_flood.proofs.Plain.{first_plain, row_plain, start_plain}
+use Rattle.rina_flood.specs.Network.{Side, other, Network, item_in, last_state, put_sent, Row, Make, Put, Take, Handle, Lose, Leave, Drop, Know, Pass, Enrol, Claim, happens, May, IsRun, after_rows, IsStart}
+use Rattle.rina_flood.specs.Laws.{LeavesLinkState, AllLeaveLinkState}
+use Rattle.rina_flood.specs.Static.{IsFirstEntry, IsOfDif, AreOfDif}
+use Rattle.rina_flood.proofs.All.{near_keeps, row_holds, begin_holds}
+use Rattle.rina_flood.proofs.Holds.{Holds}
+use Rattle.rina_flood.proofs.Keeping.{IsKept}
 use Rattle.rina_member.proofs.Starting.{start_of}
 
 -- The rows leave links and link states
 
-pub makes_no_link : (row : Row) → IsOfStatic row → MakesNoLink row
-makes_no_link (Make i key value) of = tt
-makes_no_link (Put link side m) of = tt
-makes_no_link (Take link side m) of = tt
-makes_no_link (Handle link side m rest) of = tt
-makes_no_link (Lose link side) of = tt
-makes_no_link (Drop link side left) of = tt
-makes_no_link (Enrol link side member node) of = of
-makes_no_link (Claim link side) of = of
-makes_no_link (Know x) of = tt
-makes_no_link Pass of = tt
-
-leaves : (address : ℕ) (row : Row) → IsOfStatic row → LeavesLinkState address row
+leaves : (address : ℕ) (row : Row) → IsOfDif row → LeavesLinkState address row
 leaves address (Make i key value) of = λ e. entry_not_link of.0.0 address (sym of.0.1 ∙ e)
-leaves address (Put link side m) of = tt
-leaves address (Take link side m) of = tt
-leaves address (Handle link side m rest) of = tt
-leaves address (Lose link side) of = tt
+leaves address (Put link side number m) of = tt
+leaves address (Take link side number m) of = tt
+leaves address (Handle link side number m rest) of = tt
+leaves address (Lose link side number) of = tt
+leaves address (Leave link side number) of = tt
 leaves address (Drop link side left) of = tt
-leaves address (Enrol link side member node) of = tt
-leaves address (Claim link side) of = tt
+leaves address (Enrol link side number i j member node) of = tt
+leaves address (Claim link side number) of = tt
 leaves address (Know x) of = λ e. entry_not_link of.0 address (sym (ap (λ (y : Item). y.key) of.2) ∙ e)
 leaves address Pass of = tt
 
-make_no_links : (rows : List Row) → AreOfStatic rows → IsStatic rows
-make_no_links [] of = tt
-make_no_links (row ∷ rows) of = (makes_no_link row of.0, make_no_links rows of.1)
-
-all_leave : (address : ℕ) (rows : List Row) → AreOfStatic rows → AllLeaveLinkState address rows
-all_leave address [] of = tt
-all_leave address (row ∷ rows) of = (leaves address row of.0, all_leave address rows of.1)
-
-pub static_rows : (rows : List Row) → AreOfStatic rows → IsStatic rows × ((address : ℕ) → AllLeaveLinkState address rows)
-static_rows rows of = (make_no_links rows of, λ address. all_leave address rows of)
+pub rows_leave : (rows : List Row) (address : ℕ) → AreOfDif rows → AllLeaveLinkState address rows
+rows_leave [] address of = tt
+rows_leave (row ∷ rows) address of = (leaves address row of.0, rows_leave rows address of.1)
 
 -- What is made
 
@@ -82,15 +64,32 @@ IsKnown x = IsFirstEntry x ⊎ (IsMadeEntry x ⊎ ((address : ℕ) × ((x.key �
 pub none_more : (made : List Item) (x : Item) → Contains (made ++ []) x → Contains made x
 none_more made x e = (let P : List Item → Type 0 = λ items. Contains items x in subst P (append-nil made) e)
 
-pub near_made : (n : Network) (link : ℕ) (side : Side) (m : LinkMessage) (rest : List ManagementMessage) (x : Item) → is_plain (ToNeighbour m) ≡ true → Contains (happens n (Handle link side (ToNeighbour m) rest)).made x → Contains n.made x
-near_made n link side (messages.Connect invoke joiner member) rest x plain e = absurd (both_ways true (sym plain) refl)
-near_made n link side (messages.ConnectR invoke denied) rest x plain e = absurd (both_ways true (sym plain) refl)
-near_made n link side (messages.Start invoke address) rest x plain e = absurd (both_ways true (sym plain) refl)
-near_made n link side (messages.StartR invoke) rest x plain e = absurd (both_ways true (sym plain) refl)
-near_made n link side (messages.Item y) rest x plain e = none_more n.made x e
-near_made n link side (messages.Stop invoke) rest x plain e = absurd (both_ways true (sym plain) refl)
-near_made n link side (messages.StopR invoke) rest x plain e = absurd (both_ways true (sym plain) refl)
-near_made n link side (messages.Flood y) rest x plain e = none_more n.made x e
+-- so is all that is made in an enrolment
+known_kept : IsKept (λ n. (x : Item) → Contains n.made x → IsKnown x)
+known_kept = record {
+  quiet = λ n i b q known x e. known x (none_more n.made x e);
+  introduces = λ n i fits may known x e. elim (Contains-push_cases n.made (own_item (n.agents i) n.now (member_key (n.agents i).address) (Some (n.agents i).node)) x e) [
+    | inl old ↦ known x old
+    | inr is ↦ inr (inr ((n.agents i).address, inl (sym (ap (λ (y : Item). y.key) is))))
+  ];
+  raises = λ n i k a batch fits r may known x e. elim (Contains-push_cases n.made (last_state (stated None a n.now) n.now) x e) [
+    | inl old ↦ known x old
+    | inr is ↦ inr (inr (a.address, inr (sym (ap (λ (y : Item). y.key) is))))
+  ];
+}
+
+near_known : (n : Network) (link : ℕ) (side : Side) (number : ℕ) (m : LinkMessage) (rest : List ManagementMessage) → Holds n → item_in m ≡ [] → ((x : Item) → Contains n.made x → IsKnown x) → (x : Item) → Contains (happens n (Handle link side number (ToNeighbour m) rest)).made x → IsKnown x
+near_known n link side number m rest h empty known = near_keeps (λ n. (x : Item) → Contains n.made x → IsKnown x) known_kept (record n { sent = put_sent link side rest n.sent }) (n.ends link (other side)) number m empty (h.laid.fit link (other side)) known
+
+handle_known : (n : Network) (link : ℕ) (side : Side) (number : ℕ) (m : LinkMessage) (rest : List ManagementMessage) → Holds n → ((x : Item) → Contains n.made x → IsKnown x) → (x : Item) → Contains (happens n (Handle link side number (ToNeighbour m) rest)).made x → IsKnown x
+handle_known n link side number (messages.Connect invoke joiner member) rest h known = near_known n link side number (messages.Connect invoke joiner member) rest h refl known
+handle_known n link side number (messages.ConnectR invoke denied) rest h known = near_known n link side number (messages.ConnectR invoke denied) rest h refl known
+handle_known n link side number (messages.Start invoke address) rest h known = near_known n link side number (messages.Start invoke address) rest h refl known
+handle_known n link side number (messages.StartR invoke) rest h known = near_known n link side number (messages.StartR invoke) rest h refl known
+handle_known n link side number (messages.Item y) rest h known = λ x e. known x (none_more n.made x e)
+handle_known n link side number (messages.Stop invoke) rest h known = near_known n link side number (messages.Stop invoke) rest h refl known
+handle_known n link side number (messages.StopR invoke) rest h known = near_known n link side number (messages.StopR invoke) rest h refl known
+handle_known n link side number (messages.Flood y) rest h known = λ x e. known x (none_more n.made x e)
 
 abbrev pub state_of_loss : Network → ℕ → ℕ → Item
 state_of_loss n i k = own_item (n.agents i) n.now (link_key (n.agents i).address) (Some (link_state (Some k) (n.agents i).links))
@@ -105,30 +104,29 @@ lost_made n i k false x e = inl (none_more n.made x e)
 next_some : (last : ℕ) → 1 ≤ next_of last
 next_some last = grind arith
 
-row_made : (n : Network) (row : Row) (x : Item) → ArePlain n → May n row → IsOfStatic row → Contains (happens n row).made x → Contains n.made x ⊎ IsKnown x
-row_made n (Make i key value) x plain may of e = elim (Contains-push_cases n.made (own_item (n.agents i) n.now key value) x e) [
-  | inl old ↦ inl old
-  | inr is ↦ inr (inr (inl ((of.0.0, sym (ap (λ (y : Item). y.key) is) ∙ of.0.1), subst (λ (c : ℕ). 1 ≤ c) (ap (λ (y : Item). y.version.count) is) (next_some (n.agents i).last_count))))
+row_made : (n : Network) (row : Row) → Holds n → IsOfDif row → ((x : Item) → Contains n.made x → IsKnown x) → (x : Item) → Contains (happens n row).made x → IsKnown x
+row_made n (Make i key value) h of known x e = elim (Contains-push_cases n.made (own_item (n.agents i) n.now key value) x e) [
+  | inl old ↦ known x old
+  | inr is ↦ inr (inl ((of.0.0, sym (ap (λ (y : Item). y.key) is) ∙ of.0.1), subst (λ (c : ℕ). 1 ≤ c) (ap (λ (y : Item). y.version.count) is) (next_some (n.agents i).last_count)))
 ]
-row_made n (Put link side m) x plain may of e = inl e
-row_made n (Take link side m) x plain may of e = inl (none_more n.made x e)
-row_made n (Handle link side (ToNeighbour m) rest) x plain may of e = inl (near_made n link side m rest x (first_plain n link side (ToNeighbour m) rest plain may) e)
-row_made n (Handle link side (ToMember m) rest) x plain may of e = inl e
-row_made n (Lose link side) x plain may of e = lost_made n (n.ends link side) (n.numbers link side) (was_up (find (is_numbered (n.numbers link side)) (n.agents (n.ends link side)).links)) x e
-row_made n (Drop link side left) x plain may of e = inl e
-row_made n (Enrol link side member node) x plain may of e = absurd of
-row_made n (Claim link side) x plain may of e = absurd of
-row_made n (Know y) x plain may of e = elim (Contains-push_cases n.made y x e) [
-  | inl old ↦ inl old
-  | inr is ↦ inr (inl (of.0, of.1, sym is ∙ of.2, of.3))
+row_made n (Put link side number m) h of known x e = known x e
+row_made n (Take link side number m) h of known x e = known x (none_more n.made x e)
+row_made n (Handle link side number (ToNeighbour m) rest) h of known x e = handle_known n link side number m rest h known x e
+row_made n (Handle link side number (ToMember m) rest) h of known x e = known x e
+row_made n (Lose link side number) h of known x e = elim (lost_made n (n.ends link side) number (was_up (find (is_numbered number) (n.agents (n.ends link side)).links)) x e) [ inl old ↦ known x old | inr is ↦ is ]
+row_made n (Leave link side number) h of known x e = known x e
+row_made n (Drop link side left) h of known x e = known x e
+row_made n (Enrol link side number i j member node) h of known x e = known x (none_more n.made x e)
+row_made n (Claim link side number) h of known x e = known x (none_more n.made x e)
+row_made n (Know y) h of known x e = elim (Contains-push_cases n.made y x e) [
+  | inl old ↦ known x old
+  | inr is ↦ inl (of.0, of.1, sym is ∙ of.2, of.3)
 ]
-row_made n Pass x plain may of e = inl e
+row_made n Pass h of known x e = known x e
 
-rows_made : (n : Network) (rows : List Row) → Holds n → ArePlain n → IsRun n rows → AreOfStatic rows → ((x : Item) → Contains n.made x → IsKnown x) → (x : Item) → Contains (after_rows n rows).made x → IsKnown x
-rows_made n [] h plain run of known x e = known x e
-rows_made n (row ∷ rows) h plain run of known x e =
-    rows_made (happens n row) rows (row_holds n row h run.0) (row_plain n row h plain run.0 (makes_no_link row of.0)) run.1 of.1
-    (λ y has. elim (row_made n row y plain run.0 of.0 has) [ inl old ↦ known y old | inr is ↦ is ]) x e
+rows_made : (n : Network) (rows : List Row) → Holds n → IsRun n rows → AreOfDif rows → ((x : Item) → Contains n.made x → IsKnown x) → (x : Item) → Contains (after_rows n rows).made x → IsKnown x
+rows_made n [] h run of known x e = known x e
+rows_made n (row ∷ rows) h run of known x e = rows_made (happens n row) rows (row_holds n row h run.0) run.1 of.1 (row_made n row h of.0 known) x e
 
 start_known : (is_static : Bool) (members : List Member) (plans : List LinkPlan) (x : Item) → Contains (start_items is_static members plans) x → IsKnown x
 start_known is_static members plans x e = (let r = start_of is_static members plans x e in elim r.2 [
@@ -152,9 +150,9 @@ known_entry x app address (inr (inr other)) k v = elim other.1 [
   | inr is ↦ absurd (entry_not_link app other.0 (sym k ∙ is))
 ]
 
-pub entries_are_one : (is_static : Bool) (n : Network) (members : List Member) (plans : List LinkPlan) (rows : List Row) (x : Item) (app : List ℕ) (address : ℕ) → IsStart n (start_items is_static members plans) → IsRun n rows → AreOfStatic rows
+pub entries_are_one : (is_static : Bool) (n : Network) (members : List Member) (plans : List LinkPlan) (rows : List Row) (x : Item) (app : List ℕ) (address : ℕ) → IsStart n (start_items is_static members plans) → IsRun n rows → AreOfDif rows
     → Contains (after_rows n rows).made x → x.key ≡ key_of app → x.version ≡ first_version address → x ≡ entry_of app address
 entries_are_one is_static n members plans rows x app address s run of e k v =
     let told = start_items is_static members plans in
     let P : Item → List Item → Type 0 = λ y items. Contains items y in
-    known_entry x app address (rows_made n rows (begin_holds n told s) (start_plain n told s) run of (λ y has. start_known is_static members plans y (subst (P y) s.made has)) x e) k v
+    known_entry x app address (rows_made n rows (begin_holds n told s) run of (λ y has. start_known is_static members plans y (subst (P y) s.made has)) x e) k v

@@ -1,6 +1,7 @@
 -- A message of an enrolment at one link: what the link becomes.
 use Rattle.std.proofs.Common.{◌≡◌, ℕ, suc, true, false, ◌==◌, cond, List, [], ◌∷◌, slice_set, slice_get, Option, Some, None, refl, sym, ◌∙◌, ap, subst, inl, inr}
 use Rattle.std.specs.Prelude.{find, position, is_some, option_map, option_and_then}
+use Rattle.std.specs.List.{fold}
 use Rattle.std.proofs.lemmas.Bool.{cases_Bool, both_ways, eqb-true, eq-eqb}
 use Rattle.std.proofs.lemmas.Option.{none-some, same_Some}
 use Rattle.rina_session.specs.Sessions.{Talk}
@@ -8,7 +9,9 @@ use Rattle.rina_enrol.specs.declared.event.EnrolEvent.{EnrolEvent}
 use Rattle.rina_enrol.specs.declared.message.LinkMessage.{LinkMessage}
 use Rattle.rina_agent.specs.declared.enrolment.Enrolment.{Enrolment}
 use Rattle.rina_agent.specs.declared.link.Link.{Link}
-use Rattle.rina_agent.specs.Enrolments.{exchanged, heard_as, heard_by, heard_on, heard_at, hears, is_numbered, place_of}
+use Rattle.rina_agent.specs.Enrolments.{exchanged, stepped, heard_as, heard_by, heard_on, heard_at, hears, is_numbered, place_of}
+use Rattle.rina_agent.specs.declared.neighbours.Neighbour.{Neighbour}
+use Rattle.rina_agent.specs.Neighbours.{joined, link_state, neighbour_of, with_any, with_link}
 use Rattle.rina_agent.specs.Rows.{was_up}
 use Rattle.rina_flood.specs.Network.{AreApart}
 use Rattle.rina_flood.proofs.Calls.{AreFewer}
@@ -20,6 +23,12 @@ pub record IsHeard (links : List Link) (place : Option ℕ) (at : ℕ) (becomes 
   pub there : slice_get links at ≡ Some link
   pub number : becomes.number ≡ link.number
   pub up : becomes.up ≡ link.up
+  -- what a link state says of it
+  pub says : neighbour_of None becomes ≡ neighbour_of None link
+
+same_said : (l : Link) (e : Option Enrolment) → neighbour_of None (record l { enrolment = e }) ≡ neighbour_of None l
+unfolding neighbour_of
+same_said l e = refl
 
 talk_heard : (links : List Link) (at : ℕ) (l : Link) (e : Enrolment) (event : EnrolEvent) (t : Option Talk) (h : _) → slice_get links at ≡ Some l → option_map (heard_as at l e event) t ≡ Some h → IsHeard links (Some at) h.at h.link
 talk_heard links at l e event None h there is = absurd (none-some h is)
@@ -31,6 +40,7 @@ talk_heard links at l e event (Some t) h there is =
       there = ap (λ g. slice_get links g.at) (sym same) ∙ there;
       number = ap (λ g. g.link.number) (sym same);
       up = ap (λ g. g.link.up) (sym same);
+      says = ap (λ g. neighbour_of None g.link) (sym same) ∙ same_said l (Some (stepped e event t));
     }
 
 link_heard : (links : List Link) (at : ℕ) (m : LinkMessage) (replies : List LinkMessage) (event : EnrolEvent) (l : Link) (e : Option Enrolment) (h : _) → slice_get links at ≡ Some l → heard_by at l m replies event e ≡ Some h → IsHeard links (Some at) h.at h.link
@@ -154,3 +164,18 @@ set_fewer k with l links number up there = record {
   has = λ j e. set_has j k with l links number there e;
   apart = λ a. set_apart k with links number a;
 }
+
+-- a link state says the same, where it says so of the link that is set
+set_said : (k : ℕ) (with l : Link) (links : List Link) (others : List Neighbour) → find (is_numbered k) links ≡ Some l → neighbour_of None with ≡ neighbour_of None l → fold (with_link None) others (set_link k with links) ≡ fold (with_link None) others links
+set_said k with l [] others e says = refl
+set_said k with l (x ∷ links) others e says = elim (cases_Bool (x.number == k)) [
+  | inl is ↦
+      (let same : x ≡ l = same_Some x l (rw is at e) in
+      rw is (ap (λ (o : Option Neighbour). fold (with_link None) (with_any others o) links) (says ∙ ap (λ (y : Link). neighbour_of None y) (sym same))))
+  | inr isnt ↦ rw isnt (set_said k with l links (with_link None others x) (rw isnt at e) says)
+]
+
+pub heard_text : (links : List Link) (k at : ℕ) (becomes : Link) → IsHeard links (place_of k links) at becomes → link_state None (slice_set links at becomes) ≡ link_state None links
+heard_text links k at becomes q =
+    let p = placed k links at q.link q.here q.there in
+    ap (λ (ls : List Link). link_state None ls) (p.set becomes) ∙ ap (λ (ns : List Neighbour). fold joined [] ns) (set_said k becomes q.link links [] p.found q.says)

@@ -7,7 +7,7 @@ use Rattle.rina_newest.specs.Newest.{taken_all, AreTold}
 use Rattle.rina_agent.specs.declared.message.ManagementMessage.{ManagementMessage}
 use Rattle.rina_agent.specs.declared.message.ManagementMessage.TheVariants.{ToNeighbour, ToMember}
 use Rattle.rina_agent.specs.Enrolled.{IsAtLeast}
-use Rattle.rina_flood.specs.Network.{Side, other, Network, stands, unhandled, on_way, AreApart}
+use Rattle.rina_flood.specs.Network.{Side, other, Network, stands, unhandled, on_way, AreApart, AreEndsApart}
 use Rattle.rina_flood.specs.Laws.{Owes}
 
 -- a message of no enrolment
@@ -23,7 +23,7 @@ is_plain (ToMember m) = true
 -- links
 pub record IsLaid (n : Network) : Type 0 where
   pub addresses : (i : ℕ) → (n.agents i).address ≡ i
-  pub laid : (l : ℕ) (d : Side) (k : ℕ) (e : Side) → n.ends l d ≡ n.ends k e → n.numbers l d ≡ n.numbers k e → (l ≡ k) × (d ≡ e)
+  pub laid : AreEndsApart n
   pub fit : (l : ℕ) (d : Side) → n.ends l d < 2 ^ 32
   pub apart : (i : ℕ) → AreApart (n.agents i).links
 

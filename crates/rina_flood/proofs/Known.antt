@@ -1,6 +1,6 @@
 -- Each enrolled member takes an item at once.
 use Rattle.std.proofs.Common.{◌≡◌, ℕ, ◌≤◌, ◌⊎◌, Bool, true, false, ◌&&◌, cond, List, ◌∷◌, ◌++◌, Contains, Some, refl, sym, ◌∙◌, ap, subst, inl, inr, arith, []}
-use Rattle.std.specs.Prelude.{find, flat_map, is_some}
+use Rattle.std.specs.Prelude.{flat_map, is_some}
 use Rattle.std.proofs.lemmas.List.{append-nil}
 use Rattle.std.proofs.lemmas.List.Elements.{Contains-append_left, Contains-push, Contains-push_cases}
 use Rattle.rina_newest.specs.declared.item.Item.{Item}
@@ -9,12 +9,10 @@ use Rattle.rina_agent.specs.declared.agent.Agent.{Agent}
 use Rattle.rina_agent.specs.declared.link.Link.{Link}
 use Rattle.rina_agent.specs.declared.message.ManagementMessage.{ManagementMessage}
 use Rattle.rina_agent.specs.declared.message.Waiting.{Waiting}
-use Rattle.rina_agent.specs.Agenda.{waiting_on}
 use Rattle.rina_agent.specs.Enrolled.{IsAtLeast}
-use Rattle.rina_agent.specs.Enrolments.{is_numbered}
 use Rattle.rina_agent.specs.Rows.{was_up}
 use Rattle.rina_agent.proofs.Taking.{taken_least, taken_keeps}
-use Rattle.rina_flood.specs.Network.{Side, other, Network, stands, is_up, has_link, unhandled, carried, on_way, AreApart, is_enrolled, known, MayBeKnown}
+use Rattle.rina_flood.specs.Network.{Side, other, Network, link_at, waiting_at, stands, is_up, has_link, unhandled, carried, on_way, AreApart, is_enrolled, known, MayBeKnown}
 use Rattle.rina_flood.specs.Laws.{Owes}
 use Rattle.rina_flood.proofs.Calls.{taken_last}
 use Rattle.rina_flood.proofs.Flow.{kept_was}
@@ -69,16 +67,16 @@ module _ (n : Network) (x : Item) where
   taker i = knower (is_enrolled (n.agents i)) x (n.agents i)
 
   pub same_unhandled : (l : ℕ) (d : Side) → unhandled (known n x) l d ≡ unhandled n l d
-  same_unhandled l d = ap (λ (ws : List Waiting). n.sent l d ++ waiting_on (n.numbers l d) ws) (knower_agenda (is_enrolled (n.agents (n.ends l d))) x (n.agents (n.ends l d)))
+  same_unhandled l d = ap (λ (ws : List Waiting). n.sent l d ++ waiting_at (n.states l d) ws) (knower_agenda (is_enrolled (n.agents (n.ends l d))) x (n.agents (n.ends l d)))
 
   same_way : (l : ℕ) (d : Side) → on_way (known n x) l d ≡ on_way n l d
   same_way l d = ap (λ (ms : List ManagementMessage). flat_map carried ms) (same_unhandled l d)
 
-  same_up : (l : ℕ) (d : Side) → is_up (known n x) l d ≡ is_up n l d
-  same_up l d = ap (λ (ls : List Link). was_up (find (is_numbered (n.numbers l d)) ls)) (knower_links (is_enrolled (n.agents (n.ends l d))) x (n.agents (n.ends l d)))
+  pub same_up : (l : ℕ) (d : Side) → is_up (known n x) l d ≡ is_up n l d
+  same_up l d = ap (λ (ls : List Link). was_up (link_at (n.states l d) ls)) (knower_links (is_enrolled (n.agents (n.ends l d))) x (n.agents (n.ends l d)))
 
   same_has : (l : ℕ) (d : Side) → has_link (known n x) l d ≡ has_link n l d
-  same_has l d = ap (λ (ls : List Link). is_some (find (is_numbered (n.numbers l d)) ls)) (knower_links (is_enrolled (n.agents (n.ends l d))) x (n.agents (n.ends l d)))
+  same_has l d = ap (λ (ls : List Link). is_some (link_at (n.states l d) ls)) (knower_links (is_enrolled (n.agents (n.ends l d))) x (n.agents (n.ends l d)))
 
   stood : (l : ℕ) (d : Side) → stands (known n x) l d ≡ true → stands n l d ≡ true
   stood l d e =

@@ -1,4 +1,5 @@
 pub mod Agendas
+pub mod Ahead
 pub mod All
 pub mod Bounds
 pub mod Calls
@@ -9,9 +10,11 @@ pub mod Entries
 pub mod Entering
 pub mod Flow
 pub mod Gap
+pub mod Gone
 pub mod Heard
 pub mod Holds
 pub mod Journals
+pub mod Keeping
 pub mod Known
 pub mod LinkStates
 pub mod Members
@@ -21,13 +24,16 @@ pub mod Places
 pub mod Plain
 pub mod Quiet
 pub mod Raise
+pub mod Ranges
 pub mod Rows
 pub mod Runs
 pub mod Sample
 pub mod Settles
+pub mod States
 pub mod Static
 pub mod Stating
 pub mod Steps
 pub mod Stopping
+pub mod Strays
 pub mod Telling
 pub mod Told

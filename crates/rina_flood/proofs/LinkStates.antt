@@ -1,5 +1,5 @@
 -- The link state of a member that lost a link.
-use Rattle.std.proofs.Common.{◌≡◌, ℕ, Bool, true, false, ◌&&◌, ◌==◌, List, ◌∷◌, Option, Some, None, refl, sym, ◌∙◌, ap, inl, inr, []}
+use Rattle.std.proofs.Common.{◌≡◌, ℕ, Bool, true, false, ◌&&◌, ◌==◌, List, ◌∷◌, ◌++◌, Option, Some, None, refl, sym, ◌∙◌, ap, inl, inr, []}
 use Rattle.std.specs.Prelude.{find}
 use Rattle.std.specs.List.{fold}
 use Rattle.std.proofs.lemmas.Bool.{cases_Bool, both_ways, eqb-true, eq-eqb}
@@ -81,3 +81,11 @@ without_down k others (l ∷ links) e = elim (cases_Bool (l.number == k)) [
 
 pub state_same : (k : ℕ) (links : List Link) → was_up (find (is_numbered k) links) ≡ false → link_state None (without_number k links) ≡ link_state None links
 state_same k links down = ap (λ (ns : List Neighbour). fold joined [] ns) (without_down k [] links down)
+
+-- one more link, which is not up
+folded_last : (others : List Neighbour) (links : List Link) (new : Link) → fold (with_link None) others (links ++ new ∷ []) ≡ with_link None (fold (with_link None) others links) new
+folded_last others [] new = refl
+folded_last others (l ∷ links) new = folded_last (with_link None others l) links new
+
+pub state_more : (links : List Link) (new : Link) → new.up ≡ false → link_state None (links ++ new ∷ []) ≡ link_state None links
+state_more links new down = ap (λ (ns : List Neighbour). fold joined [] ns) (folded_last [] links new ∙ not_named (fold (with_link None) [] links) new down)

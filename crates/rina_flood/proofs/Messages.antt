@@ -14,7 +14,7 @@ use Rattle.rina_agent.specs.Agenda.{waits_on, waiting_on, first_on, floods, is_o
 use Rattle.rina_agent.specs.Enrolments.{is_numbered, place_of}
 use Rattle.rina_agent.specs.Rows.{was_up}
 use Rattle.rina_agent.proofs.Lists.{put_waits_last}
-use Rattle.rina_flood.specs.Network.{AreApart}
+use Rattle.rina_flood.specs.Network.{EndState, Unmade, There, Gone, waiting_at, AreApart}
 use Rattle.rina_flood.proofs.Places.{nothing_in, in_cons, in_first, in_rest, without_cons}
 
 pub waits_from : (k : ℕ) (agenda more : List Waiting) (m : ManagementMessage) → Contains (waiting_on k (agenda ++ more)) m → Contains (waiting_on k agenda) m ⊎ Contains (waiting_on k more) m
@@ -50,6 +50,23 @@ rest_waits k w ws m e = elim (cases_Bool (w.link == k)) [
 
 pub first_waits_there : (k : ℕ) (w : Waiting) (ws : List Waiting) → (w.link == k) ≡ true → Contains (waiting_on k (w ∷ ws)) w.message
 first_waits_there k w ws is = rw is (in_first w.message (waiting_on k ws))
+
+-- So of the messages that wait at an end
+
+pub from_at : (s : EndState) (agenda more : List Waiting) (m : ManagementMessage) → Contains (waiting_at s (agenda ++ more)) m → Contains (waiting_at s agenda) m ⊎ Contains (waiting_at s more) m
+from_at Unmade agenda more m e = inl e
+from_at (There k) agenda more m e = waits_from k agenda more m e
+from_at Gone agenda more m e = inl e
+
+pub old_at : (s : EndState) (agenda more : List Waiting) (m : ManagementMessage) → Contains (waiting_at s agenda) m → Contains (waiting_at s (agenda ++ more)) m
+old_at Unmade agenda more m e = e
+old_at (There k) agenda more m e = waits_old k agenda more m e
+old_at Gone agenda more m e = e
+
+pub front_at : (s : EndState) (w : Waiting) (ws : List Waiting) (m : ManagementMessage) → Contains (waiting_at s (w ∷ ws)) m → (w.message ≡ m) ⊎ Contains (waiting_at s ws) m
+front_at Unmade w ws m e = inr e
+front_at (There k) w ws m e = front_is k w ws m e
+front_at Gone w ws m e = inr e
 
 -- what a flood puts is its item
 pub floods_from : (k : ℕ) (out : Option ℕ) (x : Item) (links : List Link) (m : ManagementMessage) → Contains (waiting_on k (floods out x links)) m → ToNeighbour (messages.Flood x) ≡ m
@@ -115,6 +132,11 @@ others_wait j k (v ∷ agenda) apart = elim (cases_Bool (v.link == k)) [
       let rest = others_wait j k agenda apart in
       rw kept (front_waits j v (without_first k agenda) ∙ ap (λ (ms : List ManagementMessage). cond (v.link == j) (v.message ∷ ms) ms) rest ∙ sym (front_waits j v agenda)))
 ]
+
+pub others_at : (s : EndState) (k : ℕ) (agenda : List Waiting) → (s ≡ There k → ⊥) → waiting_at s (without_first k agenda) ≡ waiting_at s agenda
+others_at Unmade k agenda apart = refl
+others_at (There j) k agenda apart = others_wait j k agenda (λ is. apart (ap There is))
+others_at Gone k agenda apart = refl
 
 -- A link is lost
 

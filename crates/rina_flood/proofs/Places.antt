@@ -60,7 +60,7 @@ side_is Near Far e = absurd (cc)
 side_is Far Near e = absurd (cc)
 side_is Far Far e = refl
 
-side_itself : (a : Side) → is_side a a ≡ true
+pub side_itself : (a : Side) → is_side a a ≡ true
 side_itself Near = refl
 side_itself Far = refl
 
@@ -80,6 +80,9 @@ direction_case P link side l d b a here apart = elim (cases_Bool (is_direction l
   | inl e ↦ (let both = and_parts _ _ e in rw e (here (eqb-true l link both.0) (side_is side d both.1)))
   | inr e ↦ rw e (apart (λ is. both_ways (is_direction link side l d) e (direction_itself link side l d is.0 is.1)))
 ]
+
+pub same_direction : (link : ℕ) (side : Side) (l : ℕ) (d : Side) → ((l ≡ link) × (d ≡ side)) ⊎ ((l ≡ link) × (d ≡ side) → ⊥)
+same_direction link side l d = direction_case {X = Bool} (λ b. ((l ≡ link) × (d ≡ side)) ⊎ ((l ≡ link) × (d ≡ side) → ⊥)) link side l d true true (λ a b. inl (a, b)) (λ apart. inr apart)
 
 -- The first that passes a test is taken out
 

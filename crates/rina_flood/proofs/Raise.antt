@@ -16,12 +16,12 @@ use Rattle.rina_agent.specs.Enrolled.{IsAtLeast}
 use Rattle.rina_agent.specs.Enrolments.{is_numbered}
 use Rattle.rina_agent.specs.Rows.{was_up}
 use Rattle.rina_agent.proofs.Taking.{taken_same}
-use Rattle.rina_flood.specs.Network.{Side, other, Network, put_agent, stands, is_up, has_link, unhandled, carried, on_way, AreApart}
+use Rattle.rina_flood.specs.Network.{Side, other, EndState, Unmade, There, Gone, Network, link_at, waiting_at, put_agent, stands, is_up, has_link, unhandled, carried, on_way, AreApart}
 use Rattle.rina_flood.specs.Laws.{Owes, IsComing}
-use Rattle.rina_flood.proofs.Calls.{at_itself, at_place}
+use Rattle.rina_flood.proofs.Calls.{at_itself, at_place, at_state}
 use Rattle.rina_flood.proofs.Flow.{key_same, key_itself, not_below_itself, kept_new, kept_other, itself_least}
 use Rattle.rina_flood.proofs.Holds.{Holds}
-use Rattle.rina_flood.proofs.Messages.{waits_from, waits_old, waits_new}
+use Rattle.rina_flood.proofs.Messages.{from_at, old_at, waits_new}
 use Rattle.rina_flood.proofs.Places.{nothing_in, in_cons, in_one, in_first, in_rest, put_case, flat_from, flat_in}
 
 -- What stands in a list that items were taken into
@@ -143,30 +143,43 @@ module _ (n : Network) (i : ℕ) (b : Agent) (k : ℕ) (batch : List Waiting) (r
   still_least : (j : ℕ) (y : Item) → IsAtLeast (n.agents j).items y → IsAtLeast (put_agent i b n.agents j).items y
   still_least j y e = (let P : List Item → Type 0 = λ items. IsAtLeast items y in subst P (sym (same_items j)) e)
 
-  agenda_from : (j : ℕ) (m : ManagementMessage) → Contains (waiting_on j b.agenda) m → Contains (waiting_on j (n.agents i).agenda) m ⊎ Contains (waiting_on j batch) m
-  agenda_from j m e = (let P : List Waiting → Type 0 = λ ws. Contains (waiting_on j ws) m in waits_from j (n.agents i).agenda batch m (subst P r.agenda e))
+  agenda_from : (j : EndState) (m : ManagementMessage) → Contains (waiting_at j b.agenda) m → Contains (waiting_at j (n.agents i).agenda) m ⊎ Contains (waiting_at j batch) m
+  agenda_from j m e = (let P : List Waiting → Type 0 = λ ws. Contains (waiting_at j ws) m in from_at j (n.agents i).agenda batch m (subst P r.agenda e))
 
-  agenda_old : (j : ℕ) (m : ManagementMessage) → Contains (waiting_on j (n.agents i).agenda) m → Contains (waiting_on j b.agenda) m
-  agenda_old j m e = (let P : List Waiting → Type 0 = λ ws. Contains (waiting_on j ws) m in subst P (sym r.agenda) (waits_old j (n.agents i).agenda batch m e))
+  agenda_old : (j : EndState) (m : ManagementMessage) → Contains (waiting_at j (n.agents i).agenda) m → Contains (waiting_at j b.agenda) m
+  agenda_old j m e = (let P : List Waiting → Type 0 = λ ws. Contains (waiting_at j ws) m in subst P (sym r.agenda) (old_at j (n.agents i).agenda batch m e))
 
   agenda_new : (j : ℕ) (m : ManagementMessage) → Contains (waiting_on j batch) m → Contains (waiting_on j b.agenda) m
   agenda_new j m e = (let P : List Waiting → Type 0 = λ ws. Contains (waiting_on j ws) m in subst P (sym r.agenda) (waits_new j (n.agents i).agenda batch m e))
+
+  only_at : (j : EndState) (m : ManagementMessage) (y : Item) → Contains (waiting_at j batch) m → Contains (carried m) y → Contains (n.agents i).items y
+  only_at Unmade m y e has = absurd (nothing_in m e)
+  only_at (There j) m y e has = r.only j m y e has
+  only_at Gone m y e has = absurd (nothing_in m e)
+
+  up_at : (j : EndState) → was_up (link_at j b.links) ≡ true → (was_up (link_at j (n.agents i).links) ≡ true) ⊎ (j ≡ There k)
+  up_at Unmade e = inl e
+  up_at (There j) e = elim (r.up j e) [ inl old ↦ inl old | inr is ↦ inr (ap There is) ]
+  up_at Gone e = inl e
+
+  has_at : (j : EndState) → is_some (link_at j b.links) ≡ true → is_some (link_at j (n.agents i).links) ≡ true
+  has_at = at_state (λ o c. is_some c ≡ true → is_some o ≡ true) (n.agents i).links b.links r.has (λ e. e)
 
   -- what is on its way was so before, or is an item of the member
   raised_way : (l : ℕ) (d : Side) (y : Item) → Contains (on_way raised l d) y → Contains (on_way n l d) y ⊎ ((n.ends l d ≡ i) × Contains (n.agents i).items y)
   raised_way l d y e =
       let q = flat_from carried (unhandled raised l d) y e in
       let m = q.0 in
-      elim (Contains-append_cases (n.sent l d) (waiting_on (n.numbers l d) (put_agent i b n.agents (n.ends l d)).agenda) m q.1) [
-        | inl flies ↦ inl (flat_in carried (unhandled n l d) m y (Contains-append_left (n.sent l d) (waiting_on (n.numbers l d) (n.agents (n.ends l d)).agenda) m flies) q.2)
-        | inr waits ↦ elim (put_case (λ (c : Agent). Contains (waiting_on (n.numbers l d) c.agenda) m → Contains (waiting_on (n.numbers l d) (n.agents (n.ends l d)).agenda) m ⊎ ((n.ends l d ≡ i) × Contains (waiting_on (n.numbers l d) batch) m)) (n.ends l d) i b (n.agents (n.ends l d))
-            (λ is w. elim (agenda_from (n.numbers l d) m w) [
-              | inl old ↦ (let P : ℕ → Type 0 = λ j. Contains (waiting_on (n.numbers l d) (n.agents j).agenda) m in inl (subst P (sym is) old))
+      elim (Contains-append_cases (n.sent l d) (waiting_at (n.states l d) (put_agent i b n.agents (n.ends l d)).agenda) m q.1) [
+        | inl flies ↦ inl (flat_in carried (unhandled n l d) m y (Contains-append_left (n.sent l d) (waiting_at (n.states l d) (n.agents (n.ends l d)).agenda) m flies) q.2)
+        | inr waits ↦ elim (put_case (λ (c : Agent). Contains (waiting_at (n.states l d) c.agenda) m → Contains (waiting_at (n.states l d) (n.agents (n.ends l d)).agenda) m ⊎ ((n.ends l d ≡ i) × Contains (waiting_at (n.states l d) batch) m)) (n.ends l d) i b (n.agents (n.ends l d))
+            (λ is w. elim (agenda_from (n.states l d) m w) [
+              | inl old ↦ (let P : ℕ → Type 0 = λ j. Contains (waiting_at (n.states l d) (n.agents j).agenda) m in inl (subst P (sym is) old))
               | inr new ↦ inr (is, new)
             ])
             (λ apart w. inl w) waits) [
-              | inl old ↦ inl (flat_in carried (unhandled n l d) m y (Contains-append_right (n.sent l d) (waiting_on (n.numbers l d) (n.agents (n.ends l d)).agenda) m old) q.2)
-              | inr new ↦ inr (new.0, r.only (n.numbers l d) m y new.1 q.2)
+              | inl old ↦ inl (flat_in carried (unhandled n l d) m y (Contains-append_right (n.sent l d) (waiting_at (n.states l d) (n.agents (n.ends l d)).agenda) m old) q.2)
+              | inr new ↦ inr (new.0, only_at (n.states l d) m y new.1 q.2)
             ]
       ]
 
@@ -174,19 +187,19 @@ module _ (n : Network) (i : ℕ) (b : Agent) (k : ℕ) (batch : List Waiting) (r
   old_way l d y e =
       let q = flat_from carried (unhandled n l d) y e in
       let m = q.0 in
-      elim (Contains-append_cases (n.sent l d) (waiting_on (n.numbers l d) (n.agents (n.ends l d)).agenda) m q.1) [
-        | inl flies ↦ flat_in carried (unhandled raised l d) m y (Contains-append_left (n.sent l d) (waiting_on (n.numbers l d) (put_agent i b n.agents (n.ends l d)).agenda) m flies) q.2
-        | inr waits ↦ flat_in carried (unhandled raised l d) m y (Contains-append_right (n.sent l d) (waiting_on (n.numbers l d) (put_agent i b n.agents (n.ends l d)).agenda) m
-            (at_place (λ a c. Contains (waiting_on (n.numbers l d) a.agenda) m → Contains (waiting_on (n.numbers l d) c.agenda) m) i b n.agents (n.ends l d) (λ w. agenda_old (n.numbers l d) m w) (λ a w. w) waits)) q.2
+      elim (Contains-append_cases (n.sent l d) (waiting_at (n.states l d) (n.agents (n.ends l d)).agenda) m q.1) [
+        | inl flies ↦ flat_in carried (unhandled raised l d) m y (Contains-append_left (n.sent l d) (waiting_at (n.states l d) (put_agent i b n.agents (n.ends l d)).agenda) m flies) q.2
+        | inr waits ↦ flat_in carried (unhandled raised l d) m y (Contains-append_right (n.sent l d) (waiting_at (n.states l d) (put_agent i b n.agents (n.ends l d)).agenda) m
+            (at_place (λ a c. Contains (waiting_at (n.states l d) a.agenda) m → Contains (waiting_at (n.states l d) c.agenda) m) i b n.agents (n.ends l d) (λ w. agenda_old (n.states l d) m w) (λ a w. w) waits)) q.2
       ]
 
-  raised_stands : (l : ℕ) (d : Side) → stands raised l d ≡ true → (stands n l d ≡ true) ⊎ ((n.ends l d ≡ i) × (n.numbers l d ≡ k))
+  raised_stands : (l : ℕ) (d : Side) → stands raised l d ≡ true → (stands n l d ≡ true) ⊎ ((n.ends l d ≡ i) × (n.states l d ≡ There k))
   raised_stands l d e =
       let both = and_parts _ _ e in
-      let has : has_link n l (other d) ≡ true = at_place (λ a c. is_some (find (is_numbered (n.numbers l (other d))) c.links) ≡ true → is_some (find (is_numbered (n.numbers l (other d))) a.links) ≡ true) i b n.agents (n.ends l (other d)) (r.has (n.numbers l (other d))) (λ a u. u) both.1 in
-      elim (put_case (λ (c : Agent). was_up (find (is_numbered (n.numbers l d)) c.links) ≡ true → (is_up n l d ≡ true) ⊎ ((n.ends l d ≡ i) × (n.numbers l d ≡ k))) (n.ends l d) i b (n.agents (n.ends l d))
-      (λ is u. elim (r.up (n.numbers l d) u) [
-        | inl old ↦ (let P : ℕ → Type 0 = λ j. was_up (find (is_numbered (n.numbers l d)) (n.agents j).links) ≡ true in inl (subst P (sym is) old))
+      let has : has_link n l (other d) ≡ true = at_place (λ a c. is_some (link_at (n.states l (other d)) c.links) ≡ true → is_some (link_at (n.states l (other d)) a.links) ≡ true) i b n.agents (n.ends l (other d)) (has_at (n.states l (other d))) (λ a u. u) both.1 in
+      elim (put_case (λ (c : Agent). was_up (link_at (n.states l d) c.links) ≡ true → (is_up n l d ≡ true) ⊎ ((n.ends l d ≡ i) × (n.states l d ≡ There k))) (n.ends l d) i b (n.agents (n.ends l d))
+      (λ is u. elim (up_at (n.states l d) u) [
+        | inl old ↦ (let P : ℕ → Type 0 = λ j. was_up (link_at (n.states l d) (n.agents j).links) ≡ true in inl (subst P (sym is) old))
         | inr new ↦ inr (is, new)
       ])
       (λ apart u. inl u) both.0) [
@@ -194,15 +207,15 @@ module _ (n : Network) (i : ℕ) (b : Agent) (k : ℕ) (batch : List Waiting) (r
         | inr new ↦ inr new
       ]
 
-  new_coming : (l : ℕ) (d : Side) (key : List ℕ) (x : Item) → n.ends l d ≡ i → n.numbers l d ≡ k → kept_at (n.agents (n.ends l d)).items key ≡ Some x → IsComing (on_way raised l d) x
+  new_coming : (l : ℕ) (d : Side) (key : List ℕ) (x : Item) → n.ends l d ≡ i → n.states l d ≡ There k → kept_at (n.agents (n.ends l d)).items key ≡ Some x → IsComing (on_way raised l d) x
   new_coming l d key x is number e =
       let P : ℕ → Type 0 = λ j. Contains (n.agents j).items x in
-      let Q : ℕ → Type 0 = λ j. Contains (waiting_on j b.agenda) (ToNeighbour (messages.Item x)) in
-      let R : Agent → Type 0 = λ c. Contains (waiting_on (n.numbers l d) c.agenda) (ToNeighbour (messages.Item x)) in
+      let Q : EndState → Type 0 = λ j. Contains (waiting_at j b.agenda) (ToNeighbour (messages.Item x)) in
+      let R : Agent → Type 0 = λ c. Contains (waiting_at (n.states l d) c.agenda) (ToNeighbour (messages.Item x)) in
       let listed = subst P is (found_in (n.agents (n.ends l d)).items key x e) in
-      let waits : Contains (waiting_on (n.numbers l d) b.agenda) (ToNeighbour (messages.Item x)) = subst Q (sym number) (agenda_new k (ToNeighbour (messages.Item x)) (r.all x listed)) in
+      let waits : Contains (waiting_at (n.states l d) b.agenda) (ToNeighbour (messages.Item x)) = subst Q (sym number) (agenda_new k (ToNeighbour (messages.Item x)) (r.all x listed)) in
       let mine : put_agent i b n.agents (n.ends l d) ≡ b = ap (λ (j : ℕ). put_agent i b n.agents j) is ∙ at_itself i b n.agents in
-      let there = Contains-append_right (n.sent l d) (waiting_on (n.numbers l d) (put_agent i b n.agents (n.ends l d)).agenda) (ToNeighbour (messages.Item x)) (subst R (sym mine) waits) in
+      let there = Contains-append_right (n.sent l d) (waiting_at (n.states l d) (put_agent i b n.agents (n.ends l d)).agenda) (ToNeighbour (messages.Item x)) (subst R (sym mine) waits) in
       record { item = x; among = flat_in carried (unhandled raised l d) (ToNeighbour (messages.Item x)) x there (in_first x []); same = refl; least = not_below_itself x.version }
 
   raised_owes : (l : ℕ) (d : Side) → stands raised l d ≡ true → Owes raised l d

@@ -1,6 +1,6 @@
--- Each row of a static run keeps what holds.
+-- A member takes an item in a call.
 use Rattle.std.proofs.Common.{◌≡◌, ℕ, ◌≤◌, ◌<◌, ◌⊎◌, true, List, ◌∷◌, ◌++◌, Contains, refl, sym, ◌∙◌, ap, subst, inl, inr, arith, []}
-use Rattle.std.specs.Prelude.{find, flat_map}
+use Rattle.std.specs.Prelude.{flat_map}
 use Rattle.std.proofs.lemmas.Bool.{and_parts}
 use Rattle.std.proofs.lemmas.List.{append-nil}
 use Rattle.std.proofs.lemmas.List.Elements.{Contains-append_left, Contains-append_right, Contains-append_cases, Contains-push, Contains-push_cases}
@@ -10,14 +10,12 @@ use Rattle.rina_newest.specs.Newest.{is_newer, kept_at, taken}
 use Rattle.rina_agent.specs.declared.agent.Agent.{Agent}
 use Rattle.rina_agent.specs.declared.message.ManagementMessage.{ManagementMessage}
 use Rattle.rina_agent.specs.declared.message.ManagementMessage.TheVariants.{ToNeighbour}
-use Rattle.rina_agent.specs.Agenda.{waiting_on}
 use Rattle.rina_agent.specs.Enrolled.{IsAtLeast}
-use Rattle.rina_agent.specs.Enrolments.{is_numbered}
 use Rattle.rina_agent.specs.Items.{made}
 use Rattle.rina_agent.specs.Rows.{was_up}
 use Rattle.rina_agent.proofs.Taking.{taken_keeps}
-use Rattle.rina_flood.specs.Network.{Side, other, Network, put_agent, put_offers, stands, unhandled, carried, on_way}
-use Rattle.rina_flood.proofs.Agendas.{AreFlooded}
+use Rattle.rina_flood.specs.Network.{Side, other, There, Network, link_at, waiting_at, put_agent, put_offers, stands, unhandled, carried, on_way}
+use Rattle.rina_flood.proofs.Agendas.{AreFlooded, follows_at, remains_at, reaches_at}
 use Rattle.rina_flood.proofs.Calls.{AreFewer, at_itself, at_others, at_place, fewer_stand, laid_on, knows_more, offers_from, new_by_count, told_more}
 use Rattle.rina_flood.proofs.Flow.{IsTaken, taken_flooded}
 use Rattle.rina_flood.proofs.Holds.{is_plain, ArePlain, IsNoted, Holds}
@@ -39,54 +37,54 @@ module _ (n : Network) (i : ℕ) (b : Agent) (sent : ℕ → Side → List Manag
     pub floods : AreFlooded (is_newer x.version (kept_at (n.agents i).items x.key)) x back (n.agents i).agenda b.agenda b.links
     pub before : Kept n sent
     pub gone : (l : ℕ) (d : Side) (m : ManagementMessage) → Contains (n.sent l d) m → Contains (sent l d) m ⊎ ((y : Item) → Contains (carried m) y → IsAtLeast (at_end l (other d)).items y)
-    pub backed : (l : ℕ) (d : Side) → n.ends l d ≡ i → back (n.numbers l d) → IsAtLeast (at_end l (other d)).items x
+    pub backed : (l : ℕ) (d : Side) (k : ℕ) → n.ends l d ≡ i → n.states l d ≡ There k → back k → IsAtLeast (at_end l (other d)).items x
 
-  waits_follow : IsSound → (l : ℕ) (d : Side) (m : ManagementMessage) → Contains (waiting_on (n.numbers l d) (at_end l d).agenda) m → Contains (waiting_on (n.numbers l d) (n.agents (n.ends l d)).agenda) m ⊎ ((n.ends l d ≡ i) × (ToNeighbour (messages.Flood x) ≡ m))
+  waits_follow : IsSound → (l : ℕ) (d : Side) (m : ManagementMessage) → Contains (waiting_at (n.states l d) (at_end l d).agenda) m → Contains (waiting_at (n.states l d) (n.agents (n.ends l d)).agenda) m ⊎ ((n.ends l d ≡ i) × (ToNeighbour (messages.Flood x) ≡ m))
   waits_follow s l d m =
-      let k = n.numbers l d in
-      let P : Agent → Type 0 = λ c. Contains (waiting_on k c.agenda) m → Contains (waiting_on k (n.agents (n.ends l d)).agenda) m ⊎ ((n.ends l d ≡ i) × (ToNeighbour (messages.Flood x) ≡ m)) in
+      let k = n.states l d in
+      let P : Agent → Type 0 = λ c. Contains (waiting_at k c.agenda) m → Contains (waiting_at k (n.agents (n.ends l d)).agenda) m ⊎ ((n.ends l d ≡ i) × (ToNeighbour (messages.Flood x) ≡ m)) in
       put_case P (n.ends l d) i b (n.agents (n.ends l d))
-      (λ is e. elim (s.floods.follows k m e) [
-        | inl old ↦ (let Q : ℕ → Type 0 = λ j. Contains (waiting_on k (n.agents j).agenda) m in inl (subst Q (sym is) old))
+      (λ is e. elim (follows_at (is_newer x.version (kept_at (n.agents i).items x.key)) x back (n.agents i).agenda b.agenda b.links s.floods k m e) [
+        | inl old ↦ (let Q : ℕ → Type 0 = λ j. Contains (waiting_at k (n.agents j).agenda) m in inl (subst Q (sym is) old))
         | inr new ↦ inr (is, new)
       ])
       (λ apart e. inl e)
 
-  sound_follows : IsSound → (l : ℕ) (d : Side) (m : ManagementMessage) → Contains (sent l d ++ waiting_on (n.numbers l d) (at_end l d).agenda) m → Contains (unhandled n l d) m ⊎ ((n.ends l d ≡ i) × (ToNeighbour (messages.Flood x) ≡ m))
-  sound_follows s l d m e = elim (Contains-append_cases (sent l d) (waiting_on (n.numbers l d) (at_end l d).agenda) m e) [
-    | inl flies ↦ inl (Contains-append_left (n.sent l d) (waiting_on (n.numbers l d) (n.agents (n.ends l d)).agenda) m (s.before l d m flies))
+  sound_follows : IsSound → (l : ℕ) (d : Side) (m : ManagementMessage) → Contains (sent l d ++ waiting_at (n.states l d) (at_end l d).agenda) m → Contains (unhandled n l d) m ⊎ ((n.ends l d ≡ i) × (ToNeighbour (messages.Flood x) ≡ m))
+  sound_follows s l d m e = elim (Contains-append_cases (sent l d) (waiting_at (n.states l d) (at_end l d).agenda) m e) [
+    | inl flies ↦ inl (Contains-append_left (n.sent l d) (waiting_at (n.states l d) (n.agents (n.ends l d)).agenda) m (s.before l d m flies))
     | inr waits ↦ elim (waits_follow s l d m waits) [
-      | inl old ↦ inl (Contains-append_right (n.sent l d) (waiting_on (n.numbers l d) (n.agents (n.ends l d)).agenda) m old)
+      | inl old ↦ inl (Contains-append_right (n.sent l d) (waiting_at (n.states l d) (n.agents (n.ends l d)).agenda) m old)
       | inr new ↦ inr new
     ]
   ]
 
-  waits_remain : IsSound → (l : ℕ) (d : Side) (m : ManagementMessage) → was_up (find (is_numbered (n.numbers l d)) (at_end l d).links) ≡ true → Contains (waiting_on (n.numbers l d) (n.agents (n.ends l d)).agenda) m → Contains (waiting_on (n.numbers l d) (at_end l d).agenda) m
+  waits_remain : IsSound → (l : ℕ) (d : Side) (m : ManagementMessage) → was_up (link_at (n.states l d) (at_end l d).links) ≡ true → Contains (waiting_at (n.states l d) (n.agents (n.ends l d)).agenda) m → Contains (waiting_at (n.states l d) (at_end l d).agenda) m
   waits_remain s l d m =
-      let k = n.numbers l d in
-      at_place (λ a c. was_up (find (is_numbered k) c.links) ≡ true → Contains (waiting_on k a.agenda) m → Contains (waiting_on k c.agenda) m) i b n.agents (n.ends l d) (λ up e. s.floods.remains k m up e) (λ a up e. e)
+      let k = n.states l d in
+      at_place (λ a c. was_up (link_at k c.links) ≡ true → Contains (waiting_at k a.agenda) m → Contains (waiting_at k c.agenda) m) i b n.agents (n.ends l d) (λ up e. remains_at (is_newer x.version (kept_at (n.agents i).items x.key)) x back (n.agents i).agenda b.agenda b.links s.floods k m up e) (λ a up e. e)
 
   sound_remains : IsSound → (l : ℕ) (d : Side) (m : ManagementMessage) → stands (record n { agents = put_agent i b n.agents; sent = sent }) l d ≡ true → Contains (unhandled n l d) m
-      → Contains (sent l d ++ waiting_on (n.numbers l d) (at_end l d).agenda) m ⊎ ((y : Item) → Contains (carried m) y → IsAtLeast (at_end l (other d)).items y)
-  sound_remains s l d m up e = elim (Contains-append_cases (n.sent l d) (waiting_on (n.numbers l d) (n.agents (n.ends l d)).agenda) m e) [
+      → Contains (sent l d ++ waiting_at (n.states l d) (at_end l d).agenda) m ⊎ ((y : Item) → Contains (carried m) y → IsAtLeast (at_end l (other d)).items y)
+  sound_remains s l d m up e = elim (Contains-append_cases (n.sent l d) (waiting_at (n.states l d) (n.agents (n.ends l d)).agenda) m e) [
     | inl flies ↦ elim (s.gone l d m flies) [
-      | inl stays ↦ inl (Contains-append_left (sent l d) (waiting_on (n.numbers l d) (at_end l d).agenda) m stays)
+      | inl stays ↦ inl (Contains-append_left (sent l d) (waiting_at (n.states l d) (at_end l d).agenda) m stays)
       | inr came ↦ inr came
     ]
-    | inr waits ↦ (let both = and_parts _ _ up in inl (Contains-append_right (sent l d) (waiting_on (n.numbers l d) (at_end l d).agenda) m (waits_remain s l d m both.0 waits)))
+    | inr waits ↦ (let both = and_parts _ _ up in inl (Contains-append_right (sent l d) (waiting_at (n.states l d) (at_end l d).agenda) m (waits_remain s l d m both.0 waits)))
   ]
 
   sound_reaches : IsSound → (l : ℕ) (d : Side) → is_newer x.version (kept_at (n.agents i).items x.key) ≡ true → stands (record n { agents = put_agent i b n.agents; sent = sent }) l d ≡ true → n.ends l d ≡ i
-      → IsAtLeast (at_end l (other d)).items x ⊎ Contains (sent l d ++ waiting_on (n.numbers l d) (at_end l d).agenda) (ToNeighbour (messages.Flood x))
+      → IsAtLeast (at_end l (other d)).items x ⊎ Contains (sent l d ++ waiting_at (n.states l d) (at_end l d).agenda) (ToNeighbour (messages.Flood x))
   sound_reaches s l d newer up is =
-      let k = n.numbers l d in
+      let k = n.states l d in
       let both = and_parts _ _ up in
       let mine : at_end l d ≡ b = ap (λ (j : ℕ). put_agent i b n.agents j) is ∙ at_itself i b n.agents in
-      let is_up : was_up (find (is_numbered k) b.links) ≡ true = ap (λ (c : Agent). was_up (find (is_numbered k) c.links)) (sym mine) ∙ both.0 in
-      let P : Agent → Type 0 = λ c. Contains (waiting_on k c.agenda) (ToNeighbour (messages.Flood x)) in
-      elim (s.floods.reaches k newer is_up) [
-        | inl came ↦ inl (s.backed l d is came)
-        | inr flooded ↦ inr (Contains-append_right (sent l d) (waiting_on k (at_end l d).agenda) (ToNeighbour (messages.Flood x)) (subst P (sym mine) flooded))
+      let is_up : was_up (link_at k b.links) ≡ true = ap (λ (c : Agent). was_up (link_at k c.links)) (sym mine) ∙ both.0 in
+      let P : Agent → Type 0 = λ c. Contains (waiting_at k c.agenda) (ToNeighbour (messages.Flood x)) in
+      elim (reaches_at (is_newer x.version (kept_at (n.agents i).items x.key)) x back (n.agents i).agenda b.agenda b.links s.floods k newer is_up) [
+        | inl came ↦ inl (s.backed l d came.0 is came.1 came.2)
+        | inr flooded ↦ inr (Contains-append_right (sent l d) (waiting_at k (at_end l d).agenda) (ToNeighbour (messages.Flood x)) (subst P (sym mine) flooded))
       ]
 
   pub sound_taken : IsSound → IsTaken n (put_agent i b n.agents) sent i x
@@ -99,7 +97,7 @@ module _ (n : Network) (i : ℕ) (b : Agent) (sent : ℕ → Side → List Manag
     reaches = sound_reaches s;
   }
 
-  pub sound_plain : IsSound → ArePlain n → (l : ℕ) (d : Side) (m : ManagementMessage) → Contains (sent l d ++ waiting_on (n.numbers l d) (at_end l d).agenda) m → is_plain m ≡ true
+  pub sound_plain : IsSound → ArePlain n → (l : ℕ) (d : Side) (m : ManagementMessage) → Contains (sent l d ++ waiting_at (n.states l d) (at_end l d).agenda) m → is_plain m ≡ true
   sound_plain s h l d m e = elim (sound_follows s l d m e) [
     | inl old ↦ h l d m old
     | inr new ↦ (let P : ManagementMessage → Type 0 = λ z. is_plain z ≡ true in subst P new.1 refl)
@@ -109,9 +107,9 @@ module _ (n : Network) (i : ℕ) (b : Agent) (sent : ℕ → Side → List Manag
   one_is y e = in_one x y e
 
   -- what is on its way was so before, or is the item
-  pub sound_way : IsSound → (l : ℕ) (d : Side) (y : Item) → Contains (flat_map carried (sent l d ++ waiting_on (n.numbers l d) (at_end l d).agenda)) y → Contains (on_way n l d) y ⊎ (x ≡ y)
+  pub sound_way : IsSound → (l : ℕ) (d : Side) (y : Item) → Contains (flat_map carried (sent l d ++ waiting_at (n.states l d) (at_end l d).agenda)) y → Contains (on_way n l d) y ⊎ (x ≡ y)
   sound_way s l d y e =
-      let r = flat_from carried (sent l d ++ waiting_on (n.numbers l d) (at_end l d).agenda) y e in
+      let r = flat_from carried (sent l d ++ waiting_at (n.states l d) (at_end l d).agenda) y e in
       elim (sound_follows s l d r.0 r.1) [
         | inl old ↦ inl (flat_in carried (unhandled n l d) r.0 y old r.2)
         | inr new ↦ (let P : ManagementMessage → Type 0 = λ m. Contains (carried m) y in inr (one_is y (subst P (sym new.1) r.2)))

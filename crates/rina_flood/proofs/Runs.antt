@@ -1,5 +1,5 @@
 -- The other rows: messages move, or are lost with their links.
-use Rattle.std.proofs.Common.{◌≡◌, ℕ, ◌⊎◌, Bool, true, false, ◌&&◌, cond, List, ◌∷◌, ◌++◌, Contains, Option, Some, None, Ok, refl, sym, ◌∙◌, ap, subst, inl, inr, arith, append_assoc, []}
+use Rattle.std.proofs.Common.{◌≡◌, ℕ, ◌⊎◌, Bool, true, false, ◌&&◌, ◌||◌, not, cond, List, ◌∷◌, ◌++◌, Contains, Option, Some, None, Ok, refl, sym, ◌∙◌, ap, subst, inl, inr, arith, append_assoc, []}
 use Rattle.std.specs.Prelude.{find, is_some}
 use Rattle.std.proofs.lemmas.Bool.{and_parts, and_from, both_ways}
 use Rattle.std.proofs.lemmas.List.{append-nil}
@@ -21,12 +21,12 @@ use Rattle.rina_agent.specs.Enrolments.{is_numbered}
 use Rattle.rina_agent.specs.Items.{made, stated, own_item}
 use Rattle.rina_agent.specs.Neighbours.{link_key, link_state}
 use Rattle.rina_agent.specs.Rows.{was_up, dropped}
-use Rattle.rina_flood.specs.Network.{Side, Near, Far, other, Network, put_agent, put_offers, put_sent, stands, is_up, has_link, unhandled, carried, on_way, Take, Pass, happens, with_message}
-use Rattle.rina_flood.proofs.Agendas.{lost_fewer, dropped_from, dropped_stays}
-use Rattle.rina_flood.proofs.Calls.{AreFewer, same_links, at_itself, at_place, knows_same, offers_from}
+use Rattle.rina_flood.specs.Network.{Side, Near, Far, other, EndState, Unmade, There, Gone, has_lost, is_lost, Network, link_at, waiting_at, put_agent, put_offers, put_sent, stands, is_up, has_link, unhandled, carried, on_way, Take, Pass, happens, with_message}
+use Rattle.rina_flood.proofs.Agendas.{lost_fewer, dropped_from_at, dropped_stays_at}
+use Rattle.rina_flood.proofs.Calls.{AreFewer, fewer_has, fewer_up, same_links, at_itself, at_place, knows_same, offers_from}
 use Rattle.rina_flood.proofs.Flow.{IsMoved, moved_flooded}
 use Rattle.rina_flood.proofs.Holds.{is_plain, ArePlain, Holds}
-use Rattle.rina_flood.proofs.Messages.{first_waits, others_wait, front_is, waits_from, waits_old}
+use Rattle.rina_flood.proofs.Messages.{first_waits, others_at, front_at, from_at, old_at}
 use Rattle.rina_flood.proofs.Places.{nothing_in, put_case, direction_case, flat_from, flat_in}
 use Rattle.rina_flood.proofs.Rows.{own_holds}
 use Rattle.rina_flood.proofs.Steps.{lost_sound, lost_own, popped_before, popped_gone}
@@ -58,8 +58,8 @@ module _ (n : Network) (agents : ℕ → Agent) (sent : ℕ → Side → List Ma
       let both = and_parts _ _ e in
       let near = s.same (n.ends l d) in
       let far = s.same (n.ends l (other d)) in
-      let up = near.fewer.up (n.numbers l d) both.0 in
-      let has = far.fewer.has (n.numbers l (other d)) both.1 in
+      let up = fewer_up (n.agents (n.ends l d)).links (agents (n.ends l d)).links near.fewer (n.states l d) both.0 in
+      let has = fewer_has (n.agents (n.ends l (other d))).links (agents (n.ends l (other d))).links far.fewer (n.states l (other d)) both.1 in
       and_from (is_up n l d) (has_link n l (other d)) up has
 
   moving_way : IsMoving → (l : ℕ) (d : Side) (y : Item) → Contains (on_way moved l d) y → Contains (on_way n l d) y
@@ -142,18 +142,18 @@ drop_moving n i k h =
     record {
       same = put_same i b n.agents (drop_same n i k h);
       plain = true;
-      follows = λ l d m e. elim (Contains-append_cases (n.sent l d) (waiting_on (n.numbers l d) (put_agent i b n.agents (n.ends l d)).agenda) m e) [
-        | inl flies ↦ inl (Contains-append_left (n.sent l d) (waiting_on (n.numbers l d) (n.agents (n.ends l d)).agenda) m flies)
-        | inr waits ↦ inl (Contains-append_right (n.sent l d) (waiting_on (n.numbers l d) (n.agents (n.ends l d)).agenda) m
-            (at_place (λ c e. Contains (waiting_on (n.numbers l d) e.agenda) m → Contains (waiting_on (n.numbers l d) c.agenda) m) i b n.agents (n.ends l d) (λ w. dropped_from k (n.numbers l d) a.agenda m w) (λ c w. w) waits))
+      follows = λ l d m e. elim (Contains-append_cases (n.sent l d) (waiting_at (n.states l d) (put_agent i b n.agents (n.ends l d)).agenda) m e) [
+        | inl flies ↦ inl (Contains-append_left (n.sent l d) (waiting_at (n.states l d) (n.agents (n.ends l d)).agenda) m flies)
+        | inr waits ↦ inl (Contains-append_right (n.sent l d) (waiting_at (n.states l d) (n.agents (n.ends l d)).agenda) m
+            (at_place (λ c e. Contains (waiting_at (n.states l d) e.agenda) m → Contains (waiting_at (n.states l d) c.agenda) m) i b n.agents (n.ends l d) (λ w. dropped_from_at k (n.states l d) a.agenda m w) (λ c w. w) waits))
       ];
       remains = λ l d m up e.
           let both = and_parts _ _ up in
-          elim (Contains-append_cases (n.sent l d) (waiting_on (n.numbers l d) (n.agents (n.ends l d)).agenda) m e) [
-            | inl flies ↦ inl (Contains-append_left (n.sent l d) (waiting_on (n.numbers l d) (put_agent i b n.agents (n.ends l d)).agenda) m flies)
-            | inr waits ↦ inl (Contains-append_right (n.sent l d) (waiting_on (n.numbers l d) (put_agent i b n.agents (n.ends l d)).agenda) m
-                (at_place (λ c e. was_up (find (is_numbered (n.numbers l d)) e.links) ≡ true → Contains (waiting_on (n.numbers l d) c.agenda) m → Contains (waiting_on (n.numbers l d) e.agenda) m) i b n.agents (n.ends l d)
-                (λ u w. dropped_stays k (n.numbers l d) a.agenda a.links m (h.laid.apart i) u w) (λ c u w. w) both.0 waits))
+          elim (Contains-append_cases (n.sent l d) (waiting_at (n.states l d) (n.agents (n.ends l d)).agenda) m e) [
+            | inl flies ↦ inl (Contains-append_left (n.sent l d) (waiting_at (n.states l d) (put_agent i b n.agents (n.ends l d)).agenda) m flies)
+            | inr waits ↦ inl (Contains-append_right (n.sent l d) (waiting_at (n.states l d) (put_agent i b n.agents (n.ends l d)).agenda) m
+                (at_place (λ c e. was_up (link_at (n.states l d) e.links) ≡ true → Contains (waiting_at (n.states l d) c.agenda) m → Contains (waiting_at (n.states l d) e.agenda) m) i b n.agents (n.ends l d)
+                (λ u w. dropped_stays_at k (n.states l d) a.agenda a.links m (h.laid.apart i) u w) (λ c u w. w) both.0 waits))
           ];
     }
 
@@ -173,42 +173,44 @@ lose_by n i k false o h may is =
 
 -- A message is put on a link
 
-pub put_moving : (n : Network) (link : ℕ) (side : Side) (m : FlowMessage) → IsMoving n (put_agent (n.ends link side) (with_message (n.agents (n.ends link side)) (n.numbers link side) m) n.agents) n.sent
-put_moving n link side m =
+pub none_waits : (k : EndState) (m : ManagementMessage) → Contains (waiting_at k []) m → ⊥
+none_waits Unmade m e = nothing_in m e
+none_waits (There k) m e = nothing_in m e
+none_waits Gone m e = nothing_in m e
+
+pub put_moving : (n : Network) (link : ℕ) (side : Side) (number : ℕ) (m : FlowMessage) → IsMoving n (put_agent (n.ends link side) (with_message (n.agents (n.ends link side)) number m) n.agents) n.sent
+put_moving n link side number m =
     let i = n.ends link side in
     let a = n.agents i in
-    let w : Waiting = record { link = n.numbers link side; message = ToMember m } in
-    let b = with_message a (n.numbers link side) m in
+    let w : Waiting = record { link = number; message = ToMember m } in
+    let b = with_message a number m in
     record {
       same = put_same i b n.agents (record { items = refl; address = refl; count = refl; fewer = same_links a.links });
       plain = true;
-      follows = λ l d z e. elim (Contains-append_cases (n.sent l d) (waiting_on (n.numbers l d) (put_agent i b n.agents (n.ends l d)).agenda) z e) [
-        | inl flies ↦ inl (Contains-append_left (n.sent l d) (waiting_on (n.numbers l d) (n.agents (n.ends l d)).agenda) z flies)
-        | inr waits ↦ elim (at_place (λ c e. Contains (waiting_on (n.numbers l d) e.agenda) z → Contains (waiting_on (n.numbers l d) c.agenda) z ⊎ (ToMember m ≡ z)) i b n.agents (n.ends l d)
-            (λ v. elim (waits_from (n.numbers l d) a.agenda (w ∷ []) z v) [
+      follows = λ l d z e. elim (Contains-append_cases (n.sent l d) (waiting_at (n.states l d) (put_agent i b n.agents (n.ends l d)).agenda) z e) [
+        | inl flies ↦ inl (Contains-append_left (n.sent l d) (waiting_at (n.states l d) (n.agents (n.ends l d)).agenda) z flies)
+        | inr waits ↦ elim (at_place (λ c e. Contains (waiting_at (n.states l d) e.agenda) z → Contains (waiting_at (n.states l d) c.agenda) z ⊎ (ToMember m ≡ z)) i b n.agents (n.ends l d)
+            (λ v. elim (from_at (n.states l d) a.agenda (w ∷ []) z v) [
               | inl old ↦ inl old
-              | inr new ↦ elim (front_is (n.numbers l d) w [] z new) [ inl is ↦ inr is | inr none ↦ absurd (nothing_in z none) ]
+              | inr new ↦ elim (front_at (n.states l d) w [] z new) [ inl is ↦ inr is | inr none ↦ absurd (none_waits (n.states l d) z none) ]
             ])
             (λ c v. inl v) waits) [
-              | inl old ↦ inl (Contains-append_right (n.sent l d) (waiting_on (n.numbers l d) (n.agents (n.ends l d)).agenda) z old)
+              | inl old ↦ inl (Contains-append_right (n.sent l d) (waiting_at (n.states l d) (n.agents (n.ends l d)).agenda) z old)
               | inr is ↦ (let P : ManagementMessage → Type 0 = λ q. (carried q ≡ []) × (true ≡ true → is_plain q ≡ true) in inr (subst P is (refl, λ e. refl)))
             ]
       ];
-      remains = λ l d z up e. elim (Contains-append_cases (n.sent l d) (waiting_on (n.numbers l d) (n.agents (n.ends l d)).agenda) z e) [
-        | inl flies ↦ inl (Contains-append_left (n.sent l d) (waiting_on (n.numbers l d) (put_agent i b n.agents (n.ends l d)).agenda) z flies)
-        | inr waits ↦ inl (Contains-append_right (n.sent l d) (waiting_on (n.numbers l d) (put_agent i b n.agents (n.ends l d)).agenda) z
-            (at_place (λ c e. Contains (waiting_on (n.numbers l d) c.agenda) z → Contains (waiting_on (n.numbers l d) e.agenda) z) i b n.agents (n.ends l d) (λ v. waits_old (n.numbers l d) a.agenda (w ∷ []) z v) (λ c v. v) waits))
+      remains = λ l d z up e. elim (Contains-append_cases (n.sent l d) (waiting_at (n.states l d) (n.agents (n.ends l d)).agenda) z e) [
+        | inl flies ↦ inl (Contains-append_left (n.sent l d) (waiting_at (n.states l d) (put_agent i b n.agents (n.ends l d)).agenda) z flies)
+        | inr waits ↦ inl (Contains-append_right (n.sent l d) (waiting_at (n.states l d) (put_agent i b n.agents (n.ends l d)).agenda) z
+            (at_place (λ c e. Contains (waiting_at (n.states l d) c.agenda) z → Contains (waiting_at (n.states l d) e.agenda) z) i b n.agents (n.ends l d) (λ v. old_at (n.states l d) a.agenda (w ∷ []) z v) (λ c v. v) waits))
       ];
     }
 
 -- A message is taken from an agenda, and sent: the messages of each direction are the same
 
-module _ (n : Network) (link : ℕ) (side : Side) (m : ManagementMessage) (h : Holds n) (first : first_on (n.numbers link side) (n.agents (n.ends link side)).agenda ≡ Some (record { link = n.numbers link side; message = m })) where
+module _ (n : Network) (link : ℕ) (side : Side) (number : ℕ) (m : ManagementMessage) (h : Holds n) (there : n.states link side ≡ There number) (first : first_on number (n.agents (n.ends link side)).agenda ≡ Some (record { link = number; message = m })) where
   abbrev from : ℕ
   from = n.ends link side
-
-  abbrev number : ℕ
-  number = n.numbers link side
 
   abbrev shorter : Agent
   shorter = record (n.agents from) { agenda = without_first number (n.agents from).agenda }
@@ -216,27 +218,29 @@ module _ (n : Network) (link : ℕ) (side : Side) (m : ManagementMessage) (h : H
   abbrev longer : ℕ → Side → List ManagementMessage
   longer = put_sent link side (n.sent link side ++ m ∷ []) n.sent
 
-  on_the_link : (n.sent link side ++ m ∷ []) ++ waiting_on number (put_agent from shorter n.agents from).agenda ≡ unhandled n link side
+  on_the_link : (n.sent link side ++ m ∷ []) ++ waiting_at (n.states link side) (put_agent from shorter n.agents from).agenda ≡ unhandled n link side
   on_the_link =
       let waits = first_waits number (n.agents from).agenda (record { link = number; message = m }) first in
-      ap (λ (c : Agent). (n.sent link side ++ m ∷ []) ++ waiting_on number c.agenda) (at_itself from shorter n.agents)
+      ap (λ (c : Agent). (n.sent link side ++ m ∷ []) ++ waiting_at (n.states link side) c.agenda) (at_itself from shorter n.agents)
+      ∙ ap (λ (s : EndState). (n.sent link side ++ m ∷ []) ++ waiting_at s (without_first number (n.agents from).agenda)) there
       ∙ append_assoc (n.sent link side) (m ∷ []) (waiting_on number (without_first number (n.agents from).agenda))
       ∙ ap (λ (ms : List ManagementMessage). n.sent link side ++ ms) (sym waits)
+      ∙ ap (λ (s : EndState). n.sent link side ++ waiting_at s (n.agents from).agenda) (sym there)
 
-  on_others : (l : ℕ) (d : Side) → (((l ≡ link) × (d ≡ side)) → ⊥) → waiting_on (n.numbers l d) (put_agent from shorter n.agents (n.ends l d)).agenda ≡ waiting_on (n.numbers l d) (n.agents (n.ends l d)).agenda
+  on_others : (l : ℕ) (d : Side) → (((l ≡ link) × (d ≡ side)) → ⊥) → waiting_at (n.states l d) (put_agent from shorter n.agents (n.ends l d)).agenda ≡ waiting_at (n.states l d) (n.agents (n.ends l d)).agenda
   on_others l d apart =
-      let P : Agent → Type 0 = λ c. waiting_on (n.numbers l d) c.agenda ≡ waiting_on (n.numbers l d) (n.agents (n.ends l d)).agenda in
+      let P : Agent → Type 0 = λ c. waiting_at (n.states l d) c.agenda ≡ waiting_at (n.states l d) (n.agents (n.ends l d)).agenda in
       put_case P (n.ends l d) from shorter (n.agents (n.ends l d))
-      (λ is. others_wait (n.numbers l d) number (n.agents from).agenda (λ k. apart (h.laid.laid l d link side is k)) ∙ ap (λ (j : ℕ). waiting_on (n.numbers l d) (n.agents j).agenda) (sym is))
+      (λ is. others_at (n.states l d) number (n.agents from).agenda (λ k. apart (h.laid.laid l d link side number is k there)) ∙ ap (λ (j : ℕ). waiting_at (n.states l d) (n.agents j).agenda) (sym is))
       (λ n. refl)
 
-  same_unhandled : (l : ℕ) (d : Side) → longer l d ++ waiting_on (n.numbers l d) (put_agent from shorter n.agents (n.ends l d)).agenda ≡ unhandled n l d
+  same_unhandled : (l : ℕ) (d : Side) → longer l d ++ waiting_at (n.states l d) (put_agent from shorter n.agents (n.ends l d)).agenda ≡ unhandled n l d
   same_unhandled l d =
-      let P : List ManagementMessage → Type 0 = λ s. s ++ waiting_on (n.numbers l d) (put_agent from shorter n.agents (n.ends l d)).agenda ≡ unhandled n l d in
+      let P : List ManagementMessage → Type 0 = λ s. s ++ waiting_at (n.states l d) (put_agent from shorter n.agents (n.ends l d)).agenda ≡ unhandled n l d in
       direction_case P link side l d (n.sent link side ++ m ∷ []) (n.sent l d)
       (λ a b.
-      let Q : ℕ → Type 0 = λ k. (n.sent link side ++ m ∷ []) ++ waiting_on (n.numbers k d) (put_agent from shorter n.agents (n.ends k d)).agenda ≡ unhandled n k d in
-      let R : Side → Type 0 = λ t. (n.sent link side ++ m ∷ []) ++ waiting_on (n.numbers link t) (put_agent from shorter n.agents (n.ends link t)).agenda ≡ unhandled n link t in
+      let Q : ℕ → Type 0 = λ k. (n.sent link side ++ m ∷ []) ++ waiting_at (n.states k d) (put_agent from shorter n.agents (n.ends k d)).agenda ≡ unhandled n k d in
+      let R : Side → Type 0 = λ t. (n.sent link side ++ m ∷ []) ++ waiting_at (n.states link t) (put_agent from shorter n.agents (n.ends link t)).agenda ≡ unhandled n link t in
       subst Q (sym a) (subst R (sym b) on_the_link))
       (λ apart. ap (λ (ms : List ManagementMessage). n.sent l d ++ ms) (on_others l d apart))
 
@@ -251,7 +255,7 @@ module _ (n : Network) (link : ℕ) (side : Side) (m : ManagementMessage) (h : H
     remains = λ l d z up e. (let P : List ManagementMessage → Type 0 = λ ms. Contains ms z in inl (subst P (sym (same_unhandled l d)) e));
   }
 
-  pub take_holds : Holds (happens n (Take link side m))
+  pub take_holds : Holds (happens n (Take link side number m))
   take_holds = quiet_holds n from shorter longer take_same h (moving_holds n (put_agent from shorter n.agents) longer take_moving h)
 
 -- Messages are lost with their link
@@ -261,26 +265,39 @@ up_is_some None e = absurd (both_ways true (sym e) refl)
 up_is_some (Some l) e = refl
 
 both_there : (n : Network) (l : ℕ) (d : Side) → stands n l d ≡ true → (has_link n l Near && has_link n l Far) ≡ true
-both_there n l Near e = (let both = and_parts _ _ e in and_from (has_link n l Near) (has_link n l Far) (up_is_some (find (is_numbered (n.numbers l Near)) (n.agents (n.ends l Near)).links) both.0) both.1)
-both_there n l Far e = (let both = and_parts _ _ e in and_from (has_link n l Near) (has_link n l Far) both.1 (up_is_some (find (is_numbered (n.numbers l Far)) (n.agents (n.ends l Far)).links) both.0))
+both_there n l Near e = (let both = and_parts _ _ e in and_from (has_link n l Near) (has_link n l Far) (up_is_some (link_at (n.states l Near) (n.agents (n.ends l Near)).links) both.0) both.1)
+both_there n l Far e = (let both = and_parts _ _ e in and_from (has_link n l Near) (has_link n l Far) both.1 (up_is_some (link_at (n.states l Far) (n.agents (n.ends l Far)).links) both.0))
 
-pub left_moving : (n : Network) (link : ℕ) (side : Side) (left : List ManagementMessage) → (has_link n link Near && has_link n link Far) ≡ false → ((m : ManagementMessage) → Contains left m → Contains (n.sent link side) m) → IsMoving n n.agents (put_sent link side left n.sent)
+-- an end that has the link has not lost it
+has_not_lost : (s : EndState) (links : List Link) → is_some (link_at s links) ≡ true → has_lost s links ≡ false
+has_not_lost Unmade links e = refl
+has_not_lost (There k) links e = ap not e
+has_not_lost Gone links e = absurd (both_ways true (sym e) refl)
+
+none_lost : (n : Network) (l : ℕ) (d : Side) → stands n l d ≡ true → (is_lost n l Near || is_lost n l Far) ≡ false
+none_lost n l d up =
+    let both = and_parts _ _ (both_there n l d up) in
+    let near = has_not_lost (n.states l Near) (n.agents (n.ends l Near)).links both.0 in
+    let far = has_not_lost (n.states l Far) (n.agents (n.ends l Far)).links both.1 in
+    ap (λ (b : Bool). b || is_lost n l Far) near ∙ far
+
+pub left_moving : (n : Network) (link : ℕ) (side : Side) (left : List ManagementMessage) → (is_lost n link Near || is_lost n link Far) ≡ true → ((m : ManagementMessage) → Contains left m → Contains (n.sent link side) m) → IsMoving n n.agents (put_sent link side left n.sent)
 left_moving n link side left lost was = record {
   same = λ j. the_same (n.agents j);
   plain = true;
-  follows = λ l d m e. elim (Contains-append_cases (put_sent link side left n.sent l d) (waiting_on (n.numbers l d) (n.agents (n.ends l d)).agenda) m e) [
+  follows = λ l d m e. elim (Contains-append_cases (put_sent link side left n.sent l d) (waiting_at (n.states l d) (n.agents (n.ends l d)).agenda) m e) [
     | inl flies ↦
         (let P : List ManagementMessage → Type 0 = λ s. Contains s m → Contains (n.sent l d) m in
         let old = direction_case P link side l d left (n.sent l d)
         (λ a b v. (let Q : ℕ → Type 0 = λ k. Contains (n.sent k d) m in let R : Side → Type 0 = λ t. Contains (n.sent link t) m in subst Q (sym a) (subst R (sym b) (was m v))))
         (λ apart v. v) flies in
-        inl (Contains-append_left (n.sent l d) (waiting_on (n.numbers l d) (n.agents (n.ends l d)).agenda) m old))
-    | inr waits ↦ inl (Contains-append_right (n.sent l d) (waiting_on (n.numbers l d) (n.agents (n.ends l d)).agenda) m waits)
+        inl (Contains-append_left (n.sent l d) (waiting_at (n.states l d) (n.agents (n.ends l d)).agenda) m old))
+    | inr waits ↦ inl (Contains-append_right (n.sent l d) (waiting_at (n.states l d) (n.agents (n.ends l d)).agenda) m waits)
   ];
   remains = λ l d m up e.
-      (let P : List ManagementMessage → Type 0 = λ s. Contains (s ++ waiting_on (n.numbers l d) (n.agents (n.ends l d)).agenda) m in
+      (let P : List ManagementMessage → Type 0 = λ s. Contains (s ++ waiting_at (n.states l d) (n.agents (n.ends l d)).agenda) m in
       inl (direction_case P link side l d left (n.sent l d)
-      (λ a b. (let Q : ℕ → Type 0 = λ k. (has_link n k Near && has_link n k Far) ≡ true in absurd (both_ways (has_link n link Near && has_link n link Far) lost (subst Q a (both_there n l d up)))))
+      (λ a b. (let Q : ℕ → Type 0 = λ k. (is_lost n k Near || is_lost n k Far) ≡ false in absurd (both_ways (is_lost n link Near || is_lost n link Far) (subst Q a (none_lost n l d up)) lost)))
       (λ apart. e)));
 }
 
@@ -290,16 +307,16 @@ pub passed_moving : (n : Network) (link : ℕ) (side : Side) (m : ManagementMess
 passed_moving n link side m rest empty first = record {
   same = λ j. the_same (n.agents j);
   plain = true;
-  follows = λ l d z e. elim (Contains-append_cases (put_sent link side rest n.sent l d) (waiting_on (n.numbers l d) (n.agents (n.ends l d)).agenda) z e) [
-    | inl flies ↦ inl (Contains-append_left (n.sent l d) (waiting_on (n.numbers l d) (n.agents (n.ends l d)).agenda) z (popped_before n link side m rest first l d z flies))
-    | inr waits ↦ inl (Contains-append_right (n.sent l d) (waiting_on (n.numbers l d) (n.agents (n.ends l d)).agenda) z waits)
+  follows = λ l d z e. elim (Contains-append_cases (put_sent link side rest n.sent l d) (waiting_at (n.states l d) (n.agents (n.ends l d)).agenda) z e) [
+    | inl flies ↦ inl (Contains-append_left (n.sent l d) (waiting_at (n.states l d) (n.agents (n.ends l d)).agenda) z (popped_before n link side m rest first l d z flies))
+    | inr waits ↦ inl (Contains-append_right (n.sent l d) (waiting_at (n.states l d) (n.agents (n.ends l d)).agenda) z waits)
   ];
-  remains = λ l d z up e. elim (Contains-append_cases (n.sent l d) (waiting_on (n.numbers l d) (n.agents (n.ends l d)).agenda) z e) [
+  remains = λ l d z up e. elim (Contains-append_cases (n.sent l d) (waiting_at (n.states l d) (n.agents (n.ends l d)).agenda) z e) [
     | inl flies ↦ elim (popped_gone n link side m rest first l d z flies) [
-      | inl stays ↦ inl (Contains-append_left (put_sent link side rest n.sent l d) (waiting_on (n.numbers l d) (n.agents (n.ends l d)).agenda) z stays)
+      | inl stays ↦ inl (Contains-append_left (put_sent link side rest n.sent l d) (waiting_at (n.states l d) (n.agents (n.ends l d)).agenda) z stays)
       | inr gone ↦ (let P : ManagementMessage → Type 0 = λ q. carried q ≡ [] in inr (subst P gone.2 empty))
     ]
-    | inr waits ↦ inl (Contains-append_right (put_sent link side rest n.sent l d) (waiting_on (n.numbers l d) (n.agents (n.ends l d)).agenda) z waits)
+    | inr waits ↦ inl (Contains-append_right (put_sent link side rest n.sent l d) (waiting_at (n.states l d) (n.agents (n.ends l d)).agenda) z waits)
   ];
 }
 
@@ -313,7 +330,7 @@ pass_holds n h = record {
 -- What holds of a network holds of each that is the same, member by member
 pub alike_holds : (n : Network) (agents : ℕ → Agent) (made : List Item) (offered : ℕ → List Item) → ((j : ℕ) → agents j ≡ n.agents j) → made ≡ n.made → ((j : ℕ) → offered j ≡ n.offered j) → Holds n → Holds (record n { agents = agents; made = made; offered = offered })
 alike_holds n agents made offered same_agents same_made same_offered h =
-    let same : (l : ℕ) (d : Side) → n.sent l d ++ waiting_on (n.numbers l d) (agents (n.ends l d)).agenda ≡ unhandled n l d = λ l d. ap (λ (c : Agent). n.sent l d ++ waiting_on (n.numbers l d) c.agenda) (same_agents (n.ends l d)) in
+    let same : (l : ℕ) (d : Side) → n.sent l d ++ waiting_at (n.states l d) (agents (n.ends l d)).agenda ≡ unhandled n l d = λ l d. ap (λ (c : Agent). n.sent l d ++ waiting_at (n.states l d) c.agenda) (same_agents (n.ends l d)) in
     let moving : IsMoving n agents n.sent = record {
       same = λ j. (let P : Agent → Type 0 = λ c. IsSame (n.agents j) c in subst P (sym (same_agents j)) (the_same (n.agents j)));
       plain = true;
@@ -342,15 +359,15 @@ pub drop_is_plain : (n : Network) (i k : ℕ) (h : Holds n) → (drop_moving n i
 unfolding drop_moving
 drop_is_plain n i k h = refl
 
-pub put_is_plain : (n : Network) (link : ℕ) (side : Side) (m : FlowMessage) → (put_moving n link side m).plain ≡ true
+pub put_is_plain : (n : Network) (link : ℕ) (side : Side) (number : ℕ) (m : FlowMessage) → (put_moving n link side number m).plain ≡ true
 unfolding put_moving
-put_is_plain n link side m = refl
+put_is_plain n link side number m = refl
 
-pub take_is_plain : (n : Network) (link : ℕ) (side : Side) (m : ManagementMessage) (h : Holds n) (first : first_on (n.numbers link side) (n.agents (n.ends link side)).agenda ≡ Some (record { link = n.numbers link side; message = m })) → (take_moving n link side m h first).plain ≡ true
+pub take_is_plain : (n : Network) (link : ℕ) (side : Side) (number : ℕ) (m : ManagementMessage) (h : Holds n) (there : n.states link side ≡ There number) (first : first_on number (n.agents (n.ends link side)).agenda ≡ Some (record { link = number; message = m })) → (take_moving n link side number m h there first).plain ≡ true
 unfolding take_moving
-take_is_plain n link side m h first = refl
+take_is_plain n link side number m h there first = refl
 
-pub left_is_plain : (n : Network) (link : ℕ) (side : Side) (left : List ManagementMessage) (lost : (has_link n link Near && has_link n link Far) ≡ false) (was : (m : ManagementMessage) → Contains left m → Contains (n.sent link side) m) → (left_moving n link side left lost was).plain ≡ true
+pub left_is_plain : (n : Network) (link : ℕ) (side : Side) (left : List ManagementMessage) (lost : (is_lost n link Near || is_lost n link Far) ≡ true) (was : (m : ManagementMessage) → Contains left m → Contains (n.sent link side) m) → (left_moving n link side left lost was).plain ≡ true
 unfolding left_moving
 left_is_plain n link side left lost was = refl
 

@@ -1,18 +1,22 @@
 -- The run of two members.
-use Rattle.std.proofs.Common.{◌≡◌, ℕ, ◌<◌, ◌^◌, [], ◌∷◌, Some, refl, arith, inl}
+use Rattle.std.proofs.Common.{◌≡◌, ℕ, ◌<◌, ◌^◌, [], ◌∷◌, Some, refl, sym, ◌∙◌, arith, inl}
 use Rattle.std.specs.Prelude.{codes}
 use Rattle.rina_access.specs.declared.rules.Rules.{Rules}
 use Rattle.rina_newest.specs.Newest.{kept_at, taken}
-use Rattle.rina_flood.specs.Network.{Side, Near, Far, IsRun, after_rows, IsStart}
+use Rattle.rina_flood.specs.Network.{Side, Near, Far, There, IsRun, after_rows, IsStart}
 use Rattle.rina_flood.specs.Laws.{IsQuietWalk}
 use Rattle.rina_flood.specs.Sample.{sample, sample_end, sample_entry, sample_item, sample_rows, SampleSettles}
 use Rattle.rina_flood.proofs.Places.{nothing_in}
+use Rattle.rina_flood.proofs.States.{there_is}
 
-laid : (l : ℕ) (d : Side) (k : ℕ) (e : Side) → sample_end l d ≡ sample_end k e → l ≡ k → (l ≡ k) × (d ≡ e)
-laid l Near k Near a b = (b, refl)
-laid l Near k Far a b = absurd (omega (arith, a))
-laid l Far k Near a b = absurd (omega (arith, a))
-laid l Far k Far a b = (b, refl)
+same_link : (l k number : ℕ) → There l ≡ There number → There k ≡ There number → l ≡ k
+same_link l k number a b = there_is l number a ∙ sym (there_is k number b)
+
+laid : (l : ℕ) (d : Side) (k : ℕ) (e : Side) (number : ℕ) → sample_end l d ≡ sample_end k e → There l ≡ There number → There k ≡ There number → (l ≡ k) × (d ≡ e)
+laid l Near k Near number a b c = (same_link l k number b c, refl)
+laid l Near k Far number a b c = absurd (omega (arith, a))
+laid l Far k Near number a b c = absurd (omega (arith, a))
+laid l Far k Far number a b c = (same_link l k number b c, refl)
 
 fits : (l : ℕ) (d : Side) → sample_end l d < 2 ^ 32
 fits l Near = omega arith
@@ -35,7 +39,7 @@ start rules = record {
 }
 
 run : (rules : Rules) → IsRun (sample rules) sample_rows
-run rules = (record { both = λ l d up first. refl; one = λ y e k v. absurd (nothing_in y e); past = omega arith; counted = omega arith }, (refl, (refl, (refl, tt))))
+run rules = (record { both = λ l d up first. refl; one = λ y e k v. absurd (nothing_in y e); past = omega arith; counted = omega arith }, (refl, ((refl, refl), ((refl, refl), tt))))
 
 quiet : (rules : Rules) → IsQuietWalk (after_rows (sample rules) sample_rows) 1 ((0, Near) ∷ []) 2
 unfolding taken

@@ -1,6 +1,6 @@
 -- What follows for the members.
 use Rattle.std.proofs.Common.{◌≡◌, ℕ, Bool, true, false, cond, List, ◌∷◌, ◌++◌, Contains, Option, Some, None, refl, sym, ◌∙◌, ap, subst, inl, inr, []}
-use Rattle.std.specs.Prelude.{find, MatchOption}
+use Rattle.std.specs.Prelude.{MatchOption}
 use Rattle.std.proofs.lemmas.Bool.{and_parts, and_from}
 use Rattle.std.proofs.lemmas.List.{append-nil}
 use Rattle.std.proofs.lemmas.Option.{none-some, same_Some}
@@ -8,10 +8,9 @@ use Rattle.rina_newest.specs.declared.item.Item.{Item}
 use Rattle.rina_newest.specs.Newest.{is_below, is_newer, kept_at, taken_all, IsNewest, AreTold}
 use Rattle.rina_agent.specs.declared.agent.Agent.{Agent}
 use Rattle.rina_agent.specs.Agenda.{waiting_on, floods}
-use Rattle.rina_agent.specs.Enrolments.{is_numbered}
 use Rattle.rina_agent.specs.Items.{took}
 use Rattle.rina_agent.proofs.Lists.{put_waits_last, not_back}
-use Rattle.rina_flood.specs.Network.{Side, Near, Far, other, Network, joins, stands, is_up, has_link, on_way, Row, IsRun, after_rows, IsStart}
+use Rattle.rina_flood.specs.Network.{Side, Near, Far, other, Network, link_at, joins, stands, is_up, has_link, on_way, Row, IsRun, after_rows, IsStart}
 use Rattle.rina_flood.specs.Laws.{IsComing, IsTold, Owes, IsQuietWalk}
 use Rattle.rina_flood.proofs.Flow.{same_version}
 use Rattle.rina_flood.proofs.Holds.{Holds}
@@ -80,8 +79,8 @@ module _ (greatest : Greatest) where
       subst P (other_back d) (across n l (other d) key x h up quiet e)
 
   joined_stands : (n : Network) (l : ℕ) (d : Side) → joins n l ≡ true → stands n l d ≡ true
-  joined_stands n l Near e = (let both = and_parts _ _ e in and_from (is_up n l Near) (has_link n l Far) both.0 (up_is_some (find (is_numbered (n.numbers l Far)) (n.agents (n.ends l Far)).links) both.1))
-  joined_stands n l Far e = (let both = and_parts _ _ e in and_from (is_up n l Far) (has_link n l Near) both.1 (up_is_some (find (is_numbered (n.numbers l Near)) (n.agents (n.ends l Near)).links) both.0))
+  joined_stands n l Near e = (let both = and_parts _ _ e in and_from (is_up n l Near) (has_link n l Far) both.0 (up_is_some (link_at (n.states l Far) (n.agents (n.ends l Far)).links) both.1))
+  joined_stands n l Far e = (let both = and_parts _ _ e in and_from (is_up n l Far) (has_link n l Near) both.1 (up_is_some (link_at (n.states l Near) (n.agents (n.ends l Near)).links) both.0))
 
   quiet_side : (n : Network) (l : ℕ) (d : Side) → on_way n l Near ≡ [] → on_way n l Far ≡ [] → on_way n l d ≡ []
   quiet_side n l Near a b = a

@@ -1,7 +1,7 @@
 -- The start of a DIF is a start.
 use Rattle.std.proofs.Common.{◌≡◌, ℕ, zero, suc, ◌+◌, ◌<◌, ◌^◌, ◌⊎◌, Bool, true, false, ◌==◌, ◌||◌, cond, List, ◌∷◌, Contains, Option, Some, None, map, length, slice_get, get_or, refl, sym, ◌∙◌, ap, subst, inl, inr, arith, []}
-use Rattle.std.specs.Prelude.{find, sum, position, is_some, option_and_then, option_map, unwrap_or}
-use Rattle.std.specs.List.{cons_option, fold, list_any}
+use Rattle.std.specs.Prelude.{find, position, is_some, option_and_then, option_map, unwrap_or}
+use Rattle.std.specs.List.{cons_option, list_any}
 use Rattle.std.proofs.lemmas.Bool.{cases_Bool, cases_order, both_ways, eq-eqb, eqb-true, and_parts}
 use Rattle.std.proofs.lemmas.List.{get_or-map, length-map}
 use Rattle.std.proofs.lemmas.List.Quantifiers.{position-Some}
@@ -27,8 +27,8 @@ use Rattle.rina_member.proofs.Items.{not_link}
 use Rattle.rina_member.proofs.Laying.{own_is, same_member, small_address}
 use Rattle.rina_member.proofs.Lists.{at_place, is_there, made_of}
 use Rattle.rina_member.proofs.Starting.{start_of}
-use Rattle.rina_flood.specs.Network.{Side, Near, Far, other, Network, AreApart, IsStart, KnowsAll, KnowsNothing, has_link}
-use Rattle.rina_flood.specs.Static.{AreEnds, AreFirst, LinkEnd, address_in, end_address, end_number, end_place, nobody, number_above, first_network, or_nobody, place_at}
+use Rattle.rina_flood.specs.Network.{Side, Near, Far, other, EndState, Unmade, There, Gone, Network, link_at, AreApart, IsStart, KnowsAll, KnowsNothing, has_link}
+use Rattle.rina_flood.specs.Static.{AreEnds, AreFirst, LinkEnd, address_in, end_address, end_state, end_place, nobody, first_network, or_nobody, place_at}
 use Rattle.rina_flood.specs.Members.{HasNoMember}
 use Rattle.rina_flood.proofs.Places.{in_first, in_rest, position_cons}
 
@@ -125,6 +125,16 @@ linked_begun : (enrolled : Bool) (links : List Managed) (k : ℕ) → is_some (f
 linked_begun true links k has = refl
 linked_begun false links k has = absurd (both_ways true (sym has) refl)
 
+linked_at : (enrolled : Bool) (links : List Managed) (s : EndState) → is_some (link_at s (cond enrolled links [])) ≡ true → enrolled ≡ true
+linked_at enrolled links Unmade has = absurd (both_ways true (sym has) refl)
+linked_at enrolled links (There k) has = linked_begun enrolled links k has
+linked_at enrolled links Gone has = absurd (both_ways true (sym has) refl)
+
+pub no_link_at : (s : EndState) → is_some (link_at s []) ≡ true → ⊥
+no_link_at Unmade has = both_ways true (sym has) refl
+no_link_at (There k) has = both_ways true (sym has) refl
+no_link_at Gone has = both_ways true (sym has) refl
+
 begun_knows : (enrolled : Bool) (told : List Item) → ((cond enrolled (taken_all [] told) [] ≡ taken_all [] told) × (cond enrolled told [] ≡ told)) ⊎ ((cond enrolled (taken_all [] told) [] ≡ []) × (cond enrolled told [] ≡ []))
 begun_knows true told = inl (refl, refl)
 begun_knows false told = inr (refl, refl)
@@ -144,6 +154,10 @@ module _ (is_static : Bool) (members : List Member) (plans : List LinkPlan) (m :
   started_count : its.last_count ≡ 0
   unfolding started
   started_count = refl
+
+  started_invoke : its.last_invoke ≡ 0
+  unfolding started
+  started_invoke = refl
 
   started_agenda : its.agenda ≡ []
   unfolding started
@@ -232,18 +246,6 @@ module _ (members : List Member) (plans : List LinkPlan) (laid : IsLaidOut membe
       let r = found_at (λ (x : Member). x.addr == m.addr) members j place in
       ap Some (place_is j k r.0 m r.1 is (eqb-true r.0.addr m.addr r.2))
 
-sum_from : (a : ℕ) (xs : List ℕ) → fold (λ b x. b + x) a xs ≡ a + sum xs
-sum_from a [] = omega arith
-sum_from a (x ∷ xs) = (let more = sum_from (a + x) xs in let its = sum_from (0 + x) xs in omega (arith, more, its))
-
-all_number : (x : LinkEnd) (ends : List LinkEnd) → sum (map (λ (e : LinkEnd). e.number) (x ∷ ends)) ≡ x.number + sum (map (λ (e : LinkEnd). e.number) ends)
-all_number x ends = (let more = sum_from (0 + x.number) (map (λ (e : LinkEnd). e.number) ends) in omega (arith, more))
-
-below_all : (ends : List LinkEnd) (k : ℕ) (e : LinkEnd) → slice_get ends k ≡ Some e → e.number < number_above ends
-below_all [] k e is = absurd (none-some e is)
-below_all (x ∷ ends) zero e is = (let same : x.number ≡ e.number = ap (λ (y : LinkEnd). y.number) (same_Some x e is) in let total = all_number x ends in omega (arith, same, total))
-below_all (x ∷ ends) (suc k) e is = (let lt = below_all ends k e is in let total = all_number x ends in omega (arith, lt, total))
-
 -- The network
 
 module _ (is_static : Bool) (rules : Rules) (members : List Member) (plans : List LinkPlan) (agents : List Agent) (ends : List LinkEnd) (now : ℕ) (laid : IsLaidOut members plans) (first : AreFirst is_static members plans agents) (are : AreEnds members ends) where
@@ -291,14 +293,14 @@ module _ (is_static : Bool) (rules : Rules) (members : List Member) (plans : Lis
   has_all : (l : ℕ) (d : Side) → has_link here l d ≡ true → KnowsAll here told (here.ends l d)
   has_all l d =
       let i = here.ends l d in
-      let k = here.numbers l d in
-      at_address (λ a. is_some (find (is_numbered k) a.links) ≡ true → (a.items ≡ taken_all [] told) × (cond (starts_enrolled is_static members i) told [] ≡ told)) i
+      let k = here.states l d in
+      at_address (λ a. is_some (link_at k a.links) ≡ true → (a.items ≡ taken_all [] told) × (cond (starts_enrolled is_static members i) told [] ≡ told)) i
       (λ m r links address numbered has.
       (let kept : List Managed = map managed_link (live_links members plans m links) in
-      let its : starts_enrolled is_static members m.addr ≡ true = linked_begun (starts_enrolled is_static members m.addr) kept k (ap (λ (ls : List Managed). is_some (find (is_numbered k) ls)) (sym (started_links is_static members plans m r links)) ∙ has) in
+      let its : starts_enrolled is_static members m.addr ≡ true = linked_at (starts_enrolled is_static members m.addr) kept k (ap (λ (ls : List Managed). is_some (link_at k ls)) (sym (started_links is_static members plans m r links)) ∙ has) in
       let enrolled : starts_enrolled is_static members i ≡ true = ap (λ (a : ℕ). starts_enrolled is_static members a) (sym address) ∙ its in
       (items_here m r links i address ∙ ap (λ (b : Bool). cond b (taken_all [] told) []) enrolled, ap (λ (b : Bool). cond b told []) enrolled)))
-      (λ none has. absurd (both_ways true (sym has) refl))
+      (λ none has. absurd (no_link_at k has))
 
   small : (o : Option LinkEnd) (k : ℕ) → slice_get ends k ≡ o → end_address members o < 2 ^ 32
   small None k is = omega arith
@@ -308,14 +310,13 @@ module _ (is_static : Bool) (rules : Rules) (members : List Member) (plans : Lis
       let same = address_is members e.member m.0 m.1 in
       omega (arith, fits, same)
 
-  ends_apart : (j k : ℕ) (a b : Option LinkEnd) → slice_get ends j ≡ a → slice_get ends k ≡ b → end_address members a ≡ end_address members b → end_number ends j a ≡ end_number ends k b → j ≡ k
-  ends_apart j k None None p q addresses numbers = omega (arith, numbers)
-  ends_apart j k None (Some b) p q addresses numbers = (let lt = below_all ends k b q in absurd (omega (arith, numbers, lt)))
-  ends_apart j k (Some a) None p q addresses numbers = (let lt = below_all ends j a p in absurd (omega (arith, numbers, lt)))
-  ends_apart j k (Some a) (Some b) p q addresses numbers = are.apart j k a b p q (same_place members laid.addresses a.member b.member (are.within j a p) (are.within k b q) addresses) numbers
+  ends_apart : (j k : ℕ) (a b : Option LinkEnd) (number : ℕ) → slice_get ends j ≡ a → slice_get ends k ≡ b → end_address members a ≡ end_address members b → end_state a ≡ There number → end_state b ≡ There number → j ≡ k
+  ends_apart j k None b number p q addresses has too = absurd (cc)
+  ends_apart j k (Some a) None number p q addresses has too = absurd (cc)
+  ends_apart j k (Some a) (Some b) number p q addresses has too = are.apart j k a b number p q (same_place members laid.addresses a.member b.member (are.within j a p) (are.within k b q) addresses) has too
 
-  pub network_fresh : (i : ℕ) → (here.agents i).last_count ≡ 0
-  network_fresh i = at_address (λ a. a.last_count ≡ 0) i (λ m r links address numbered. started_count is_static members plans m r links) (λ none. refl)
+  pub network_fresh : (i : ℕ) → ((here.agents i).last_count ≡ 0) × ((here.agents i).last_invoke ≡ 0)
+  network_fresh i = at_address (λ a. (a.last_count ≡ 0) × (a.last_invoke ≡ 0)) i (λ m r links address numbered. (started_count is_static members plans m r links, started_invoke is_static members plans m r links)) (λ none. (refl, refl))
 
   pub network_starts : IsStart here told
   network_starts = record {
@@ -329,6 +330,6 @@ module _ (is_static : Bool) (rules : Rules) (members : List Member) (plans : Lis
     past = λ x e. (let r = told_first is_static members plans x e in let tick = r.0 in omega (arith, tick));
     counted = λ x e. (let r = told_first is_static members plans x e in let count = r.1 in omega (arith, count));
     apart = λ i. at_address (λ a. AreApart a.links) i (λ m r links address numbered. started_apart is_static members plans m r links numbered) (λ none. tt);
-    laid = λ l d k e addresses numbers. places_apart l d k e (ends_apart (end_place l d) (end_place k e) (slice_get ends (end_place l d)) (slice_get ends (end_place k e)) refl refl addresses numbers);
+    laid = λ l d k e number addresses has too. places_apart l d k e (ends_apart (end_place l d) (end_place k e) (slice_get ends (end_place l d)) (slice_get ends (end_place k e)) number refl refl addresses has too);
     fit = λ l d. small (slice_get ends (end_place l d)) (end_place l d) refl;
   }

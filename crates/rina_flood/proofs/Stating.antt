@@ -1,17 +1,19 @@
 -- In the start of a static DIF each member keeps its own link state, which names its links.
-use Rattle.std.proofs.Common.{◌≡◌, ℕ, zero, suc, ◌+◌, ◌≤◌, Bool, true, cond, List, ◌∷◌, Contains, Option, Some, None, drop, length, map, slice_get, refl, sym, ◌∙◌, ap, inl, inr, arith, []}
-use Rattle.std.specs.Prelude.{option_and_then, option_map, MatchOption}
+use Rattle.std.proofs.Common.{◌≡◌, ℕ, zero, suc, ◌+◌, ◌≤◌, Bool, false, true, cond, List, ◌∷◌, Contains, Option, Some, None, drop, length, map, slice_get, refl, sym, ◌∙◌, ap, inl, inr, arith, []}
+use Rattle.std.specs.Prelude.{find, option_and_then, option_map, MatchOption}
 use Rattle.std.specs.List.{cons_option, fold}
-use Rattle.std.proofs.lemmas.List.Elements.{Contains-append_right}
+use Rattle.std.proofs.lemmas.List.Elements.{Contains-append_cases, Contains-append_right}
 use Rattle.std.proofs.lemmas.Option.{none-some, slice_get_within}
 use Rattle.rina_access.specs.declared.rules.Rules.{Rules}
 use Rattle.rina_graph.specs.declared.graph.Edge.{Edge}
 use Rattle.rina_newest.specs.declared.item.Item.{Item}
 use Rattle.rina_newest.specs.Newest.{kept_at, taken_all, IsNewest}
-use Rattle.rina_route.proofs.Lists.{contains_map}
+use Rattle.rina_route.proofs.Lists.{contains_map, contains_unmap}
 use Rattle.rina_agent.specs.declared.agent.Agent.{Agent}
 use Rattle.rina_agent.specs.declared.link.Link.{Link as Managed}
 use Rattle.rina_agent.specs.declared.neighbours.Neighbour.{Neighbour}
+use Rattle.rina_agent.specs.Enrolments.{is_numbered}
+use Rattle.rina_agent.specs.Rows.{was_up}
 use Rattle.rina_agent.specs.Neighbours.{joined, link_key, link_state, neighbour_of, with_any, with_link}
 use Rattle.rina_plan.specs.declared.dif.LinkPlan.{LinkPlan}
 use Rattle.rina_data.specs.declared.link.Link.{Link}
@@ -19,13 +21,13 @@ use Rattle.rina_data.specs.declared.settings.Member.{Member}
 use Rattle.rina_data.proofs.Finding.{there}
 use Rattle.rina_member.specs.Knowing.{AreLive, AreNumbered, IsLaidOut}
 use Rattle.rina_member.specs.Routing.{edges_from, live_links, live_of, own_links}
-use Rattle.rina_member.specs.Start.{managed, managed_link, member_item, neighbour_link, start_items, started, state_item, state_text}
+use Rattle.rina_member.specs.Start.{first_enrolled, starts_enrolled, managed, managed_link, member_item, neighbour_link, start_items, started, state_item, state_text}
 use Rattle.rina_member.proofs.Items.{not_link, same_address}
 use Rattle.rina_member.proofs.Laying.{same_member, small_address}
 use Rattle.rina_member.proofs.Lists.{at_place, keeps_all}
 use Rattle.rina_flood.specs.Laws.{TellsLinks}
-use Rattle.rina_flood.specs.Static.{AreFirst, LinkEnd, first_network, or_nobody, place_at}
-use Rattle.rina_flood.proofs.Places.{drop_at, past_all}
+use Rattle.rina_flood.specs.Static.{AreFirst, LinkEnd, OthersTellNone, first_network, or_nobody, place_at}
+use Rattle.rina_flood.proofs.Places.{drop_at, nothing_in, past_all}
 use Rattle.rina_flood.proofs.Settles.{Greatest}
 use Rattle.rina_flood.proofs.Static.{AreFrom, later, started_items, started_links, found_place}
 use Rattle.rina_member.proofs.Starting.{all_enrolled, start_of}
@@ -120,4 +122,35 @@ static_tells greatest rules members plans agents ends now m laid first among =
     record {
       own = ap (λ (o : Option Item). option_and_then (λ (x : Item). x.value) o) kept ∙ ap (λ (text : List ℕ). Some text) (sym links);
       by_itself = λ x has key. ap (λ (y : Item). y.version.origin) (its_state members plans laid m among x has key);
+    }
+
+-- In a DIF that is not static
+
+no_begun : (enrolled : Bool) (links : List Managed) → links ≡ [] → cond enrolled links [] ≡ []
+no_begun true links none = none
+no_begun false links none = refl
+
+-- the items of its start are member items
+member_of : (members : List Member) (plans : List LinkPlan) (x : Item) → Contains (start_items false members plans) x → (m : Member) × (member_item m ≡ x)
+member_of members plans x has = elim (Contains-append_cases (map member_item (first_enrolled false members)) [] x has) [
+  | inl its ↦ (let r = contains_unmap member_item (first_enrolled false members) x its in (r.0, r.2))
+  | inr none ↦ absurd (nothing_in x none)
+]
+
+pub others_tell_none : OthersTellNone
+others_tell_none rules members plans agents ends now m laid first among =
+    let n = first_network false rules members plans agents ends now in
+    let k = among.0 in
+    let is_m = at_place members m among in
+    let aligned = first.aligned in
+    let within = slice_get_within members k m is_m in
+    let a = there agents k (omega (arith, aligned, within)) in
+    let f = first.each k m a.0 is_m a.1 in
+    let agent : n.agents m.addr ≡ started false members plans f.rules m f.links =
+    ap (λ (o : Option ℕ). or_nobody rules m.addr (option_and_then (slice_get agents) o)) (found_place members plans laid k m (place_at members m.addr) is_m refl) ∙ ap (λ (o : Option Agent). or_nobody rules m.addr o) a.1 ∙ f.is in
+    let live : map managed_link (live_links members plans m f.links) ≡ [] = ap (λ (ls : List Link). map managed_link (live_links members plans m ls)) (f.bare refl) in
+    let links : (n.agents m.addr).links ≡ [] = ap (λ (b : Agent). b.links) agent ∙ started_links false members plans m f.rules f.links ∙ no_begun (starts_enrolled false members m.addr) (map managed_link (live_links members plans m f.links)) live in
+    record {
+      down = λ number. ap (λ (ls : List Managed). was_up (find (is_numbered number) ls)) links;
+      unmade = λ x has key. (let r = member_of members plans x has in not_link r.0.addr m.addr (ap (λ (y : Item). y.key) r.1 ∙ key));
     }

@@ -5,7 +5,7 @@ use Rattle.rina_newest.specs.Newest.{is_newer, kept_at, taken}
 use Rattle.rina_agent.specs.declared.agent.Agent.{Agent}
 use Rattle.rina_agent.specs.declared.message.ManagementMessage.{ManagementMessage}
 use Rattle.rina_agent.specs.declared.state.AgentError.{AgentError}
-use Rattle.rina_agent.specs.Agenda.{waiting_on, floods}
+use Rattle.rina_agent.specs.Agenda.{floods}
 use Rattle.rina_agent.specs.Counts.{spent, unless}
 use Rattle.rina_agent.specs.Enrolled.{IsAtLeast, done}
 use Rattle.rina_agent.specs.Items.{made, stated, took, own_item}
@@ -13,7 +13,7 @@ use Rattle.rina_agent.specs.Neighbours.{link_key, link_state}
 use Rattle.rina_agent.specs.Rows.{dropped}
 use Rattle.rina_agent.proofs.Taking.{taken_same, taken_least}
 use Rattle.rina_member.proofs.Losing.{counts_on}
-use Rattle.rina_flood.specs.Network.{Side, other, Network, put_agent, put_offers, put_sent, unhandled, carried, on_way, Make, happens}
+use Rattle.rina_flood.specs.Network.{Side, other, There, Network, waiting_at, put_agent, put_offers, put_sent, unhandled, carried, on_way, Make, happens}
 use Rattle.rina_flood.proofs.Agendas.{AreFlooded, made_floods, took_floods, left_alone, lost_fewer, lost_floods}
 use Rattle.rina_flood.proofs.Calls.{AreFewer, same_links, at_itself}
 use Rattle.rina_flood.proofs.Holds.{Holds}
@@ -32,7 +32,7 @@ made_sound n i key value =
       floods = made_floods (is_newer x.version (kept_at a.items x.key)) x a.agenda a.links;
       before = λ l d m e. e;
       gone = λ l d m e. inl e;
-      backed = λ l d e none. absurd none;
+      backed = λ l d k e has none. absurd none;
     }
 
 pub made_own : (n : Network) (i : ℕ) (key : List ℕ) (value : Option (List ℕ)) → (n.agents i).address ≡ i → spent 1 (n.agents i).last_count ≡ None → IsOwn n i (made None (n.agents i) n.now key value) n.sent (own_item (n.agents i) n.now key value) (λ k. ⊥)
@@ -78,84 +78,82 @@ module _ (n : Network) (link : ℕ) (side : Side) (m : ManagementMessage) (rest 
 
   pub first_way : (y : Item) → Contains (carried m) y → Contains (on_way n link side) y
   first_way y e =
-      let S : List ManagementMessage → Type 0 = λ s. Contains (s ++ waiting_on (n.numbers link side) (n.agents (n.ends link side)).agenda) m in
-      flat_in carried (unhandled n link side) m y (subst S (sym first) (in_first m (rest ++ waiting_on (n.numbers link side) (n.agents (n.ends link side)).agenda))) e
+      let S : List ManagementMessage → Type 0 = λ s. Contains (s ++ waiting_at (n.states link side) (n.agents (n.ends link side)).agenda) m in
+      flat_in carried (unhandled n link side) m y (subst S (sym first) (in_first m (rest ++ waiting_at (n.states link side) (n.agents (n.ends link side)).agenda))) e
 
   module _ (x : Item) (carries : carried m ≡ x ∷ []) (h : Holds n) where
     abbrev pub to : ℕ
     to = n.ends link (other side)
 
-    abbrev pub number : ℕ
-    number = n.numbers link (other side)
-
     pub first_item : Contains (on_way n link side) x
     first_item = (let P : List Item → Type 0 = λ items. Contains items x in first_way x (subst P (sym carries) (in_first x [])))
 
-    abbrev pub taker : Bool → Agent
-    taker newer = cond newer (record (n.agents to) { items = taken (n.agents to).items x; agenda = (n.agents to).agenda ++ floods (Some number) x (n.agents to).links }) (n.agents to)
+    module _ (number : ℕ) (there : n.states link (other side) ≡ There number) where
+      abbrev pub taker : Bool → Agent
+      taker newer = cond newer (record (n.agents to) { items = taken (n.agents to).items x; agenda = (n.agents to).agenda ++ floods (Some number) x (n.agents to).links }) (n.agents to)
 
-    taker_items : (newer : Bool) → is_newer x.version (kept_at (n.agents to).items x.key) ≡ newer → (taker newer).items ≡ taken (n.agents to).items x
-    taker_items true e = refl
-    taker_items false e = sym (taken_same (n.agents to).items x e)
+      taker_items : (newer : Bool) → is_newer x.version (kept_at (n.agents to).items x.key) ≡ newer → (taker newer).items ≡ taken (n.agents to).items x
+      taker_items true e = refl
+      taker_items false e = sym (taken_same (n.agents to).items x e)
 
-    taker_fewer : (newer : Bool) → AreFewer (n.agents to).links (taker newer).links
-    taker_fewer true = same_links (n.agents to).links
-    taker_fewer false = same_links (n.agents to).links
+      taker_fewer : (newer : Bool) → AreFewer (n.agents to).links (taker newer).links
+      taker_fewer true = same_links (n.agents to).links
+      taker_fewer false = same_links (n.agents to).links
 
-    taker_floods : (newer : Bool) → is_newer x.version (kept_at (n.agents to).items x.key) ≡ newer → AreFlooded (is_newer x.version (kept_at (n.agents to).items x.key)) x (λ k. number ≡ k) (n.agents to).agenda (taker newer).agenda (taker newer).links
-    taker_floods true e = took_floods number (is_newer x.version (kept_at (n.agents to).items x.key)) x (n.agents to).agenda (n.agents to).links
-    taker_floods false e =
-        let P : Bool → Type 0 = λ newer. AreFlooded newer x (λ k. number ≡ k) (n.agents to).agenda (n.agents to).agenda (n.agents to).links in
-        subst P (sym e) (left_alone (λ k. number ≡ k) x (n.agents to).agenda (n.agents to).links)
+      taker_floods : (newer : Bool) → is_newer x.version (kept_at (n.agents to).items x.key) ≡ newer → AreFlooded (is_newer x.version (kept_at (n.agents to).items x.key)) x (λ k. number ≡ k) (n.agents to).agenda (taker newer).agenda (taker newer).links
+      taker_floods true e = took_floods number (is_newer x.version (kept_at (n.agents to).items x.key)) x (n.agents to).agenda (n.agents to).links
+      taker_floods false e =
+          let P : Bool → Type 0 = λ newer. AreFlooded newer x (λ k. number ≡ k) (n.agents to).agenda (n.agents to).agenda (n.agents to).links in
+          subst P (sym e) (left_alone (λ k. number ≡ k) x (n.agents to).agenda (n.agents to).links)
 
-    -- the other end of the direction has it, or a newer one
-    taker_has : (newer : Bool) → is_newer x.version (kept_at (n.agents to).items x.key) ≡ newer → (l : ℕ) (d : Side) (y : Item) → l ≡ link → d ≡ side → x ≡ y → IsAtLeast (put_agent to (taker newer) n.agents (n.ends l (other d))).items y
-    taker_has newer e l d y a b is =
-        let P : List Item → Type 0 = λ items. IsAtLeast items x in
-        let Q : ℕ → Type 0 = λ k. IsAtLeast (put_agent to (taker newer) n.agents (n.ends k (other d))).items y in
-        let R : Side → Type 0 = λ t. IsAtLeast (put_agent to (taker newer) n.agents (n.ends link (other t))).items y in
-        let S : Item → Type 0 = λ z. IsAtLeast (put_agent to (taker newer) n.agents to).items z in
-        subst Q (sym a) (subst R (sym b) (subst S is (subst P (sym (ap (λ (c : Agent). c.items) (at_itself to (taker newer) n.agents) ∙ taker_items newer e)) (taken_least (n.agents to).items x))))
+      -- the other end of the direction has it, or a newer one
+      taker_has : (newer : Bool) → is_newer x.version (kept_at (n.agents to).items x.key) ≡ newer → (l : ℕ) (d : Side) (y : Item) → l ≡ link → d ≡ side → x ≡ y → IsAtLeast (put_agent to (taker newer) n.agents (n.ends l (other d))).items y
+      taker_has newer e l d y a b is =
+          let P : List Item → Type 0 = λ items. IsAtLeast items x in
+          let Q : ℕ → Type 0 = λ k. IsAtLeast (put_agent to (taker newer) n.agents (n.ends k (other d))).items y in
+          let R : Side → Type 0 = λ t. IsAtLeast (put_agent to (taker newer) n.agents (n.ends link (other t))).items y in
+          let S : Item → Type 0 = λ z. IsAtLeast (put_agent to (taker newer) n.agents to).items z in
+          subst Q (sym a) (subst R (sym b) (subst S is (subst P (sym (ap (λ (c : Agent). c.items) (at_itself to (taker newer) n.agents) ∙ taker_items newer e)) (taken_least (n.agents to).items x))))
 
-    taker_gone : (newer : Bool) → is_newer x.version (kept_at (n.agents to).items x.key) ≡ newer → (l : ℕ) (d : Side) (z : ManagementMessage) → Contains (n.sent l d) z → Contains (popped l d) z ⊎ ((y : Item) → Contains (carried z) y → IsAtLeast (put_agent to (taker newer) n.agents (n.ends l (other d))).items y)
-    taker_gone newer e l d z c = elim (popped_gone l d z c) [
-      | inl stays ↦ inl stays
-      | inr gone ↦ inr (λ y has.
-          let P : ManagementMessage → Type 0 = λ w. Contains (carried w) y in
-          let R : List Item → Type 0 = λ items. Contains items y in
-          taker_has newer e l d y gone.0 gone.1 (in_one x y (subst R carries (subst P (sym gone.2) has))))
-    ]
+      taker_gone : (newer : Bool) → is_newer x.version (kept_at (n.agents to).items x.key) ≡ newer → (l : ℕ) (d : Side) (z : ManagementMessage) → Contains (n.sent l d) z → Contains (popped l d) z ⊎ ((y : Item) → Contains (carried z) y → IsAtLeast (put_agent to (taker newer) n.agents (n.ends l (other d))).items y)
+      taker_gone newer e l d z c = elim (popped_gone l d z c) [
+        | inl stays ↦ inl stays
+        | inr gone ↦ inr (λ y has.
+            let P : ManagementMessage → Type 0 = λ w. Contains (carried w) y in
+            let R : List Item → Type 0 = λ items. Contains items y in
+            taker_has newer e l d y gone.0 gone.1 (in_one x y (subst R carries (subst P (sym gone.2) has))))
+      ]
 
-    taker_backed : (newer : Bool) → is_newer x.version (kept_at (n.agents to).items x.key) ≡ newer → (l : ℕ) (d : Side) → n.ends l d ≡ to → number ≡ n.numbers l d → IsAtLeast (put_agent to (taker newer) n.agents (n.ends l (other d))).items x
-    taker_backed newer e l d there k =
-        let is = h.laid.laid l d link (other side) there (sym k) in
-        let Q : ℕ → Type 0 = λ j. IsAtLeast (put_agent to (taker newer) n.agents (n.ends j (other d))).items x in
-        let R : Side → Type 0 = λ t. IsAtLeast (put_agent to (taker newer) n.agents (n.ends link (other t))).items x in
-        let S : Side → Type 0 = λ t. IsAtLeast (put_agent to (taker newer) n.agents (n.ends link t)).items x in
-        subst Q (sym is.0) (subst R (sym is.1) (subst S (sym (other_back side)) (put_least n to (taker newer) popped x (λ j. number ≡ j) (taker_items newer e) (n.ends link side) x (h.flooded.kept link side x first_item))))
+      taker_backed : (newer : Bool) → is_newer x.version (kept_at (n.agents to).items x.key) ≡ newer → (l : ℕ) (d : Side) (k : ℕ) → n.ends l d ≡ to → n.states l d ≡ There k → number ≡ k → IsAtLeast (put_agent to (taker newer) n.agents (n.ends l (other d))).items x
+      taker_backed newer e l d k at_end has is_k =
+          let is = h.laid.laid l d link (other side) number at_end (has ∙ ap There (sym is_k)) there in
+          let Q : ℕ → Type 0 = λ j. IsAtLeast (put_agent to (taker newer) n.agents (n.ends j (other d))).items x in
+          let R : Side → Type 0 = λ t. IsAtLeast (put_agent to (taker newer) n.agents (n.ends link (other t))).items x in
+          let S : Side → Type 0 = λ t. IsAtLeast (put_agent to (taker newer) n.agents (n.ends link t)).items x in
+          subst Q (sym is.0) (subst R (sym is.1) (subst S (sym (other_back side)) (put_least n to (taker newer) popped x (λ j. number ≡ j) (taker_items newer e) (n.ends link side) x (h.flooded.kept link side x first_item))))
 
-    pub taker_sound : (newer : Bool) → is_newer x.version (kept_at (n.agents to).items x.key) ≡ newer → IsSound n to (taker newer) popped x (λ k. number ≡ k)
-    taker_sound newer e = record {
-      items = taker_items newer e;
-      fewer = taker_fewer newer;
-      floods = taker_floods newer e;
-      before = popped_before;
-      gone = taker_gone newer e;
-      backed = taker_backed newer e;
-    }
+      pub taker_sound : (newer : Bool) → is_newer x.version (kept_at (n.agents to).items x.key) ≡ newer → IsSound n to (taker newer) popped x (λ k. number ≡ k)
+      taker_sound newer e = record {
+        items = taker_items newer e;
+        fewer = taker_fewer newer;
+        floods = taker_floods newer e;
+        before = popped_before;
+        gone = taker_gone newer e;
+        backed = taker_backed newer e;
+      }
 
-    taker_address : (newer : Bool) → (taker newer).address ≡ (n.agents to).address
-    taker_address true = refl
-    taker_address false = refl
+      taker_address : (newer : Bool) → (taker newer).address ≡ (n.agents to).address
+      taker_address true = refl
+      taker_address false = refl
 
-    taker_count : (newer : Bool) → (taker newer).last_count ≡ (n.agents to).last_count
-    taker_count true = refl
-    taker_count false = refl
+      taker_count : (newer : Bool) → (taker newer).last_count ≡ (n.agents to).last_count
+      taker_count true = refl
+      taker_count false = refl
 
-    pub took_holds : Holds (record n { agents = put_agent to (took number (n.agents to) x) n.agents; sent = popped; made = n.made ++ []; offered = put_offers to (x ∷ []) n.offered })
-    took_holds =
-        let newer = is_newer x.version (kept_at (n.agents to).items x.key) in
-        come_holds n to (taker newer) popped x (λ k. number ≡ k) (taker_sound newer refl) (taker_address newer) (taker_count newer) (h.noted.sent link side x first_item) h
+      pub took_holds : Holds (record n { agents = put_agent to (took number (n.agents to) x) n.agents; sent = popped; made = n.made ++ []; offered = put_offers to (x ∷ []) n.offered })
+      took_holds =
+          let newer = is_newer x.version (kept_at (n.agents to).items x.key) in
+          come_holds n to (taker newer) popped x (λ k. number ≡ k) (taker_sound newer refl) (taker_address newer) (taker_count newer) (h.noted.sent link side x first_item) h
 
 -- A link is lost that was up
 
@@ -169,7 +167,7 @@ lost_sound n i k h =
       floods = lost_floods k (is_newer x.version (kept_at a.items x.key)) x a.agenda a.links (h.laid.apart i);
       before = λ l d m e. e;
       gone = λ l d m e. inl e;
-      backed = λ l d e none. absurd none;
+      backed = λ l d k e has none. absurd none;
     }
 
 pub lost_own : (n : Network) (i k : ℕ) → Holds n → spent 1 (n.agents i).last_count ≡ None

@@ -1,5 +1,5 @@
 -- What a member keeps of its own link state, and what the others keep of it once all is quiet; and lost links.
-use Rattle.std.proofs.Common.{◌≡◌, ℕ, ◌≤◌, ◌<◌, ◌^◌, Bool, true, false, cond, List, ◌∷◌, ◌++◌, Contains, Option, Some, None, refl, sym, ◌∙◌, ap, subst, inl, inr, arith, []}
+use Rattle.std.proofs.Common.{◌≡◌, ℕ, ◌≤◌, ◌<◌, ◌^◌, ◌⊎◌, Bool, true, false, cond, List, ◌∷◌, ◌++◌, Contains, Option, Some, None, refl, sym, ◌∙◌, ap, subst, inl, inr, arith, []}
 use Rattle.std.specs.Prelude.{find}
 use Rattle.std.proofs.lemmas.Bool.{cases_Bool, both_ways}
 use Rattle.std.proofs.lemmas.Fmt.{decimal_injective}
@@ -10,20 +10,17 @@ use Rattle.rina_newest.specs.declared.item.Item.{Item}
 use Rattle.rina_newest.specs.Newest.{is_below, is_newer, has_key, kept_at, taken}
 use Rattle.rina_agent.specs.declared.agent.Agent.{Agent}
 use Rattle.rina_agent.specs.declared.link.Link.{Link}
-use Rattle.rina_agent.specs.declared.state.AgentError.{AgentError}
 use Rattle.rina_agent.specs.Agenda.{floods}
-use Rattle.rina_agent.specs.Counts.{next_of, spent, unless}
-use Rattle.rina_agent.specs.Enrolled.{done}
+use Rattle.rina_agent.specs.Counts.{next_of, spent}
 use Rattle.rina_agent.specs.Enrolments.{is_numbered}
-use Rattle.rina_agent.specs.Items.{made, stated, own_item}
+use Rattle.rina_agent.specs.Items.{own_item}
 use Rattle.rina_agent.specs.Neighbours.{link_key, link_state}
 use Rattle.rina_agent.specs.Rows.{was_up, dropped}
-use Rattle.rina_flood.specs.Network.{Network, put_agent, Make, happens}
-use Rattle.rina_flood.proofs.Calls.{at_place}
+use Rattle.rina_flood.specs.Network.{Network}
 use Rattle.rina_flood.proofs.Flow.{key_same, key_itself, not_below_itself, kept_other, kept_new}
 use Rattle.rina_flood.proofs.Holds.{Holds}
 use Rattle.rina_flood.proofs.Known.{knower}
-use Rattle.rina_flood.proofs.LinkStates.{state_without, state_same}
+use Rattle.rina_flood.proofs.LinkStates.{state_same}
 use Rattle.rina_flood.proofs.All.{found_key}
 use Rattle.rina_flood.proofs.Settles.{Greatest, kept_made}
 use Rattle.rina_member.proofs.Losing.{counts_on}
@@ -46,7 +43,7 @@ pub tells_more : (address : ℕ) (a : Agent) (made made' : List Item) → ((y : 
 tells_more address a made made' fewer t = record { item = t.item; kept = t.kept; value = t.value; newest = λ y e k. t.newest y (fewer y e k) k }
 
 -- an item of another key is taken
-tells_other : (address : ℕ) (a b : Agent) (made : List Item) (x : Item) → b.items ≡ taken a.items x → b.links ≡ a.links → has_key (link_key address) x ≡ false → Tells address a made → Tells address b made
+pub tells_other : (address : ℕ) (a b : Agent) (made : List Item) (x : Item) → b.items ≡ taken a.items x → b.links ≡ a.links → has_key (link_key address) x ≡ false → Tells address a made → Tells address b made
 tells_other address a b made x items links lacks t = record {
   item = t.item;
   kept = ap (λ (known : List Item). kept_at known (link_key address)) items ∙ kept_other (link_key address) x a.items lacks ∙ t.kept;
@@ -68,7 +65,7 @@ took_tells address a link made x true e was t = elim (cases_Bool (has_key (link_
 ]
 took_tells address a link made x false e was t = t
 
-lacks_key : (address : ℕ) (x : Item) → (x.key ≡ link_key address → ⊥) → has_key (link_key address) x ≡ false
+pub lacks_key : (address : ℕ) (x : Item) → (x.key ≡ link_key address → ⊥) → has_key (link_key address) x ≡ false
 lacks_key address x apart = elim (cases_Bool (has_key (link_key address) x)) [
   | inl has ↦ absurd (apart (sym (key_same (link_key address) x.key has)))
   | inr lacks ↦ lacks
@@ -81,22 +78,7 @@ made_fewer made x address apart y e k = elim (Contains-push_cases made x y e) [
   | inr is ↦ absurd (apart (ap (λ (z : Item). z.key) is ∙ k))
 ]
 
-pub make_tells : (n : Network) (address i : ℕ) (key : List ℕ) (value : Option (List ℕ)) → spent 1 (n.agents i).last_count ≡ None → (key ≡ link_key address → ⊥) → Tells address (n.agents address) n.made
-    → Tells address ((happens n (Make i key value)).agents address) (happens n (Make i key value)).made
-make_tells n address i key value may apart t =
-    let a = n.agents i in
-    let x = own_item a n.now key value in
-    let made' = n.made ++ x ∷ [] in
-    let P : Option AgentError → Type 0 = λ o. Tells address (put_agent i (done a (unless o (made None a n.now key value))) n.agents address) made' in
-    subst P (sym may) (tells_more address (put_agent i (made None a n.now key value) n.agents address) n.made made' (made_fewer n.made x address apart)
-    (at_place (λ c e. Tells address c n.made → Tells address e n.made) i (made None a n.now key value) n.agents address (λ s. tells_other address a (made None a n.now key value) n.made x refl refl (lacks_key address x apart) s) (λ c s. s) t))
-
--- an item of another key is known at once
-pub known_tells : (address : ℕ) (taking : Bool) (a : Agent) (made : List Item) (x : Item) → (x.key ≡ link_key address → ⊥) → Tells address a made → Tells address (knower taking x a) (made ++ x ∷ [])
-known_tells address true a made x apart t = tells_other address a (knower true x a) (made ++ x ∷ []) x refl refl (lacks_key address x apart) (tells_more address a made (made ++ x ∷ []) (made_fewer made x address apart) t)
-known_tells address false a made x apart t = tells_more address a made (made ++ x ∷ []) (made_fewer made x address apart) t
-
--- The member loses a link itself
+-- The member makes its link state itself
 
 older : (a b : Version) → a.tick ≤ b.tick → a.count < b.count → is_below a b ≡ true
 unfolding is_below
@@ -106,12 +88,12 @@ not_after : (a b : Version) → is_below a b ≡ true → is_below b a ≡ false
 unfolding is_below
 not_after a b h = grind (arith, common_steps, h)
 
-module _ (n : Network) (address k : ℕ) (h : Holds n) (greatest : Greatest) (alone : ByItself address n.made) (may : spent 1 (n.agents address).last_count ≡ None) where
+module _ (n : Network) (address : ℕ) (out : Option ℕ) (h : Holds n) (greatest : Greatest) (alone : ByItself address n.made) (may : spent 1 (n.agents address).last_count ≡ None) where
   abbrev mine : Agent
   mine = n.agents address
 
   abbrev told : Item
-  told = own_item mine n.now (link_key mine.address) (Some (link_state (Some k) mine.links))
+  told = own_item mine n.now (link_key mine.address) (Some (link_state out mine.links))
 
   told_key : told.key ≡ link_key address
   told_key = ap link_key (h.laid.addresses address)
@@ -136,13 +118,62 @@ module _ (n : Network) (address k : ℕ) (h : Holds n) (greatest : Greatest) (al
     | inr is ↦ (let P : Item → Type 0 = λ z. is_below told.version z.version ≡ false in subst P is (not_below_itself told.version))
   ]
 
-  pub lost_tells : Tells address (dropped (stated (Some k) mine n.now) k) (n.made ++ told ∷ [])
-  lost_tells = record {
+  pub stated_tells : (b : Agent) → b.items ≡ taken mine.items told → link_state None b.links ≡ link_state out mine.links → Tells address b (n.made ++ told ∷ [])
+  stated_tells b items text = record {
     item = told;
-    kept = kept_new (link_key address) told mine.items (key_itself (link_key address) told.key (sym told_key)) (told_newer (kept_at mine.items told.key) refl);
-    value = ap Some (state_without k mine.links (h.laid.apart address));
+    kept = ap (λ (known : List Item). kept_at known (link_key address)) items ∙ kept_new (link_key address) told mine.items (key_itself (link_key address) told.key (sym told_key)) (told_newer (kept_at mine.items told.key) refl);
+    value = ap Some (sym text);
     newest = told_newest;
   }
 
 pub down_tells : (address k : ℕ) (a : Agent) (made : List Item) → was_up (find (is_numbered k) a.links) ≡ false → Tells address a made → Tells address (dropped a k) made
 down_tells address k a made down t = record { item = t.item; kept = t.kept; value = t.value ∙ ap Some (sym (state_same k a.links down)); newest = t.newest }
+
+-- Or no link of the member is up, and nobody made its link state
+pub record TellsNot (address : ℕ) (a : Agent) (made : List Item) : Type 0 where
+  pub down : (k : ℕ) → was_up (find (is_numbered k) a.links) ≡ false
+  pub unmade : (y : Item) → Contains made y → y.key ≡ link_key address → ⊥
+
+abbrev pub HasTold : ℕ → Agent → List Item → Type 0
+HasTold address a made = Tells address a made ⊎ TellsNot address a made
+
+pub not_on : (address : ℕ) (a b : Agent) (made made' : List Item) → ((k : ℕ) → was_up (find (is_numbered k) b.links) ≡ true → was_up (find (is_numbered k) a.links) ≡ true) → ((y : Item) → Contains made' y → y.key ≡ link_key address → Contains made y) → TellsNot address a made → TellsNot address b made'
+not_on address a b made made' up fewer t = record {
+  down = λ k. elim (cases_Bool (was_up (find (is_numbered k) b.links))) [
+    | inl on ↦ absurd (both_ways (was_up (find (is_numbered k) a.links)) (t.down k) (up k on))
+    | inr off ↦ off
+  ];
+  unmade = λ y e key. t.unmade y (fewer y e key) key;
+}
+
+-- what else was made changes nothing
+pub told_more : (address : ℕ) (a : Agent) (made made' : List Item) → ((y : Item) → Contains made' y → y.key ≡ link_key address → Contains made y) → HasTold address a made → HasTold address a made'
+told_more address a made made' fewer (inl t) = inl (tells_more address a made made' fewer t)
+told_more address a made made' fewer (inr t) = inr (not_on address a a made made' (λ k e. e) fewer t)
+
+-- nor do other links that are not up, or other messages
+pub told_same : (address : ℕ) (a b : Agent) (made : List Item) → b.items ≡ a.items → link_state None b.links ≡ link_state None a.links → ((k : ℕ) → was_up (find (is_numbered k) b.links) ≡ true → was_up (find (is_numbered k) a.links) ≡ true) → HasTold address a made → HasTold address b made
+told_same address a b made items text up (inl t) = inl (record {
+  item = t.item;
+  kept = ap (λ (known : List Item). kept_at known (link_key address)) items ∙ t.kept;
+  value = t.value ∙ ap Some (sym text);
+  newest = t.newest;
+})
+told_same address a b made items text up (inr t) = inr (not_on address a b made made up (λ y e key. e) t)
+
+-- an item of another key is taken
+pub told_other : (address : ℕ) (a b : Agent) (made : List Item) (x : Item) → b.items ≡ taken a.items x → b.links ≡ a.links → (x.key ≡ link_key address → ⊥) → HasTold address a made → HasTold address b made
+told_other address a b made x items links apart (inl t) = inl (tells_other address a b made x items links (lacks_key address x apart) t)
+told_other address a b made x items links apart (inr t) = inr (not_on address a b made made (λ k e. ap (λ (ls : List Link). was_up (find (is_numbered k) ls)) (sym links) ∙ e) (λ y e key. e) t)
+
+-- an item came
+pub told_took : (address : ℕ) (a : Agent) (link : ℕ) (made : List Item) (x : Item) (newer : Bool) → is_newer x.version (kept_at a.items x.key) ≡ newer → Contains made x → HasTold address a made
+    → HasTold address (cond newer (record a { items = taken a.items x; agenda = a.agenda ++ floods (Some link) x a.links }) a) made
+told_took address a link made x newer e was (inl t) = inl (took_tells address a link made x newer e was t)
+told_took address a link made x true e was (inr t) = inr (not_on address a (record a { items = taken a.items x; agenda = a.agenda ++ floods (Some link) x a.links }) made made (λ k u. u) (λ y e key. e) t)
+told_took address a link made x false e was (inr t) = inr t
+
+-- an item is known at once
+pub told_known : (address : ℕ) (taking : Bool) (a : Agent) (made : List Item) (x : Item) → (x.key ≡ link_key address → ⊥) → HasTold address a made → HasTold address (knower taking x a) (made ++ x ∷ [])
+told_known address true a made x apart t = told_more address (knower true x a) made (made ++ x ∷ []) (made_fewer made x address apart) (told_other address a (knower true x a) made x refl refl apart t)
+told_known address false a made x apart t = told_more address a made (made ++ x ∷ []) (made_fewer made x address apart) t

@@ -1,9 +1,9 @@
--- Over whole runs: what a member keeps of its own link state, what the others keep of it once all is quiet, and lost links.
+-- Over whole runs: what a member keeps of its own link state, and what the others keep of it once all is quiet.
 use Rattle.std.proofs.Common.{◌≡◌, ℕ, ◌⊎◌, ◌<◌, ◌^◌, Bool, true, false, cond, List, ◌∷◌, ◌++◌, Contains, Option, Some, None, Ok, refl, sym, ◌∙◌, ap, subst, inl, inr, []}
-use Rattle.std.specs.Prelude.{find, is_some, option_and_then, MatchOption}
-use Rattle.std.proofs.lemmas.Bool.{both_ways}
+use Rattle.std.specs.Prelude.{find, option_and_then, MatchOption}
+use Rattle.std.proofs.lemmas.Bool.{and_parts, both_ways}
 use Rattle.std.proofs.lemmas.List.{append-nil}
-use Rattle.std.proofs.lemmas.List.Elements.{Contains-push_cases}
+use Rattle.std.proofs.lemmas.List.Elements.{Contains-append_left, Contains-push_cases}
 use Rattle.std.proofs.lemmas.Option.{none-some, same_Some}
 use Rattle.rina_enrol.specs.declared.message.LinkMessage.{LinkMessage}
 use Rattle.rina_enrol.specs.declared.message.LinkMessage.TheVariants as messages
@@ -13,130 +13,224 @@ use Rattle.rina_agent.specs.declared.agent.Agent.{Agent}
 use Rattle.rina_agent.specs.declared.link.Link.{Link}
 use Rattle.rina_agent.specs.declared.message.ManagementMessage.{ManagementMessage}
 use Rattle.rina_agent.specs.declared.message.ManagementMessage.TheVariants.{ToNeighbour, ToMember}
+use Rattle.rina_agent.specs.declared.message.Waiting.{Waiting}
 use Rattle.rina_agent.specs.declared.state.AgentError.{AgentError}
 use Rattle.rina_agent.specs.Agenda.{floods}
-use Rattle.rina_agent.specs.Counts.{spent, unless}
-use Rattle.rina_agent.specs.Enrolled.{done}
+use Rattle.rina_agent.specs.Counts.{next_of, spent, unless}
+use Rattle.rina_agent.specs.Enrolled.{done, Handles, Loses, Makes}
 use Rattle.rina_agent.specs.Enrolments.{is_numbered}
 use Rattle.rina_agent.specs.Items.{made, stated, took, own_item}
-use Rattle.rina_agent.specs.Neighbours.{link_key, link_state}
-use Rattle.rina_agent.specs.Rows.{was_up, dropped}
-use Rattle.rina_flood.specs.Network.{Side, other, Network, put_agent, carried, AreApart, Row, Make, Put, Take, Handle, Lose, Drop, Know, Pass, happens, May, IsRun, after_rows, IsStart, has_link, Enrol, Claim, KnowsAll, KnowsNothing, is_enrolled}
-use Rattle.rina_flood.specs.Laws.{LeavesLinkState, AllLeaveLinkState, MakesNoLink, IsStatic, TellsLinks, IsQuietWalk}
+use Rattle.rina_agent.specs.Neighbours.{link_key, link_state, member_key}
+use Rattle.rina_agent.specs.Rows.{was_up, dropped, joined_link, joining, joining_link}
+use Rattle.rina_member.proofs.Items.{not_link}
+use Rattle.rina_flood.specs.Network.{Side, Near, Far, other, EndState, Unmade, There, Gone, Network, link_at, put_agent, put_sent, carried, item_in, called, news, last_state, AreApart, Row, Make, Put, Take, Handle, Lose, Leave, Drop, Know, Pass, happens, May, IsRun, after_rows, IsStart, is_up, joins, Enrol, Claim, KnowsAll, KnowsNothing, is_enrolled}
+use Rattle.rina_flood.specs.Laws.{LeavesLinkState, AllLeaveLinkState, TellsLinks, TellsNone, IsQuietWalk, QuietTellsLinks}
 use Rattle.rina_flood.proofs.Calls.{at_place, at_itself}
-use Rattle.rina_flood.proofs.Holds.{is_plain, Holds, ArePlain}
-use Rattle.rina_flood.proofs.Known.{knower_links}
-use Rattle.rina_flood.proofs.Messages.{lost_link, none_kept}
+use Rattle.rina_flood.proofs.Agendas.{lost_fewer}
+use Rattle.rina_flood.proofs.Enrolling.{IsQuiet, quiet_called}
+use Rattle.rina_flood.proofs.Entering.{holds_kept, raised_states}
+use Rattle.rina_flood.proofs.Holds.{Holds}
+use Rattle.rina_flood.proofs.Keeping.{IsKept, with_items}
+use Rattle.rina_flood.proofs.LinkStates.{state_more, state_same, state_without}
+use Rattle.rina_flood.proofs.NewLinks.{up_more}
+use Rattle.rina_flood.proofs.Raise.{IsRaised, raise_holds}
 use Rattle.rina_flood.proofs.Places.{put_case}
-use Rattle.rina_flood.proofs.All.{row_holds, begin_holds, run_holds}
-use Rattle.rina_flood.proofs.Plain.{first_plain, row_plain, rows_plain, start_plain}
-use Rattle.rina_flood.proofs.Settles.{Greatest, walk_equal}
+use Rattle.rina_flood.proofs.All.{row_holds, begin_holds, found_key, near_keeps, popped_holds}
+use Rattle.rina_flood.proofs.Settles.{Greatest, kept_made, walk_equal}
 use Rattle.rina_flood.proofs.Steps.{first_item}
-use Rattle.rina_flood.proofs.Telling.{Tells, ByItself, same_address, tells_more, took_tells, make_tells, known_tells, made_fewer, lost_tells, down_tells}
+use Rattle.rina_flood.proofs.Telling.{Tells, ByItself, HasTold, TellsNot, same_address, made_fewer, stated_tells, told_known, told_more, told_other, told_same, told_took}
 
-tells_same : (address : ℕ) (a : Agent) (made : List Item) → Tells address a made → Tells address a (made ++ [])
-tells_same address a made t = (let P : List Item → Type 0 = λ items. Tells address a items in subst P (sym (append-nil made)) t)
-
+-- the item that a member makes where it loses a link that is up
 abbrev lost_item : Network → ℕ → ℕ → Item
 lost_item n i k = own_item (n.agents i) n.now (link_key (n.agents i).address) (Some (link_state (Some k) (n.agents i).links))
 
--- the key of the link state of another member is another
-other_key : (n : Network) (address i k : ℕ) → Holds n → address < 2 ^ 32 → i < 2 ^ 32 → (address ≡ i → ⊥) → (lost_item n i k).key ≡ link_key address → ⊥
-other_key n address i k h a b apart e = apart (sym (same_address i address b a (ap link_key (sym (h.laid.addresses i)) ∙ e)))
+none_made : (made : List Item) (address : ℕ) (y : Item) → Contains (made ++ []) y → y.key ≡ link_key address → Contains made y
+none_made made address y e key = (let P : List Item → Type 0 = λ items. Contains items y in subst P (append-nil made) e)
 
-lose_tells : (n : Network) (address i k : ℕ) (up : Bool) (o : Option AgentError) → Holds n → Greatest → ByItself address n.made → address < 2 ^ 32 → i < 2 ^ 32 → (up ≡ true → spent 1 (n.agents i).last_count ≡ None) → was_up (find (is_numbered k) (n.agents i).links) ≡ up → (up ≡ true → o ≡ None)
-    → Tells address (n.agents address) n.made
-    → Tells address (put_agent i (done (n.agents i) (cond up (unless o (dropped (stated (Some k) (n.agents i) n.now) k)) (Ok (dropped (n.agents i) k)))) n.agents address) (n.made ++ cond up (lost_item n i k ∷ []) [])
-lose_tells n address i k true (Some e) h greatest alone a b may was is t = absurd (none-some e (sym (is refl)))
-lose_tells n address i k true None h greatest alone a b may was is t =
-    let made' = n.made ++ lost_item n i k ∷ [] in
-    put_case (λ (c : Agent). Tells address c made') address i (dropped (stated (Some k) (n.agents i) n.now) k) (n.agents address)
-    (λ same.
-    let P : ℕ → Type 0 = λ j. spent 1 (n.agents j).last_count ≡ None in
-    let Q : ℕ → Type 0 = λ j. Tells address (dropped (stated (Some k) (n.agents j) n.now) k) (n.made ++ lost_item n j k ∷ []) in
-    subst Q same (lost_tells n address k h greatest alone (subst P (sym same) (may refl))))
-    (λ apart. tells_more address (n.agents address) n.made made' (made_fewer n.made (lost_item n i k) address (other_key n address i k h a b apart)) t)
-lose_tells n address i k false o h greatest alone a b may was is t =
-    tells_same address (put_agent i (dropped (n.agents i) k) n.agents address) n.made
-    (put_case (λ (c : Agent). Tells address c n.made) address i (dropped (n.agents i) k) (n.agents address)
-    (λ same.
-    let Q : ℕ → Type 0 = λ j. Tells address (n.agents j) n.made in
-    down_tells address k (n.agents i) n.made was (subst Q same t))
-    (λ apart. t))
-
-lose_alone : (n : Network) (address i k : ℕ) (up : Bool) → Holds n → address < 2 ^ 32 → i < 2 ^ 32 → ByItself address n.made → ByItself address (n.made ++ cond up (lost_item n i k ∷ []) [])
-lose_alone n address i k true h a b alone y e key = elim (Contains-push_cases n.made (lost_item n i k) y e) [
-  | inl old ↦ alone y old key
-  | inr is ↦
-      (let own : link_key (n.agents i).address ≡ link_key address = ap (λ (z : Item). z.key) is ∙ key in
-      ap (λ (z : Item). z.version.origin) (sym is) ∙ h.laid.addresses i ∙ same_address i address b a (ap link_key (sym (h.laid.addresses i)) ∙ own))
-]
-lose_alone n address i k false h a b alone y e key = alone y (let P : List Item → Type 0 = λ items. Contains items y in subst P (append-nil n.made) e) key
-
--- A message that carries an item is handled
-came_tells : (n : Network) (link : ℕ) (side : Side) (m : ManagementMessage) (rest : List ManagementMessage) (address : ℕ) (x : Item) → Holds n → n.sent link side ≡ m ∷ rest → carried m ≡ x ∷ [] → Tells address (n.agents address) n.made
-    → Tells address (put_agent (n.ends link (other side)) (took (n.numbers link (other side)) (n.agents (n.ends link (other side))) x) n.agents address) (n.made ++ [])
-came_tells n link side m rest address x h first carries t =
-    let to = n.ends link (other side) in
-    let was = h.noted.sent link side x (first_item n link side m rest first x carries h) in
-    let newer = is_newer x.version (kept_at (n.agents to).items x.key) in
-    tells_same address _ n.made (at_place (λ c e. Tells address c n.made → Tells address e n.made) to (took (n.numbers link (other side)) (n.agents to) x) n.agents address (λ s. took_tells address (n.agents to) (n.numbers link (other side)) n.made x newer refl was s) (λ c s. s) t)
-
-handle_tells : (n : Network) (link : ℕ) (side : Side) (m : LinkMessage) (rest : List ManagementMessage) (address : ℕ) → Holds n → n.sent link side ≡ ToNeighbour m ∷ rest → is_plain (ToNeighbour m) ≡ true → Tells address (n.agents address) n.made
-    → Tells address ((happens n (Handle link side (ToNeighbour m) rest)).agents address) (happens n (Handle link side (ToNeighbour m) rest)).made × (((happens n (Handle link side (ToNeighbour m) rest)).made) ≡ n.made)
-handle_tells n link side (messages.Connect invoke joiner member) rest address h first plain t = absurd (both_ways true (sym plain) refl)
-handle_tells n link side (messages.ConnectR invoke denied) rest address h first plain t = absurd (both_ways true (sym plain) refl)
-handle_tells n link side (messages.Start invoke from) rest address h first plain t = absurd (both_ways true (sym plain) refl)
-handle_tells n link side (messages.StartR invoke) rest address h first plain t = absurd (both_ways true (sym plain) refl)
-handle_tells n link side (messages.Stop invoke) rest address h first plain t = absurd (both_ways true (sym plain) refl)
-handle_tells n link side (messages.StopR invoke) rest address h first plain t = absurd (both_ways true (sym plain) refl)
-handle_tells n link side (messages.Item x) rest address h first plain t = (came_tells n link side (ToNeighbour (messages.Item x)) rest address x h first refl t, append-nil n.made)
-handle_tells n link side (messages.Flood x) rest address h first plain t = (came_tells n link side (ToNeighbour (messages.Flood x)) rest address x h first refl t, append-nil n.made)
-
--- All rows
-
-pub record IsTelling (address : ℕ) (n : Network) : Type 0 where
-  pub holds : Holds n
-  pub plain : ArePlain n
-  pub tells : Tells address (n.agents address) n.made
-  pub alone : ByItself address n.made
+same_alone : (address : ℕ) (made : List Item) → ByItself address made → ByItself address (made ++ [])
+same_alone address made alone y e key = alone y (none_made made address y e key) key
 
 make_alone : (address : ℕ) (made : List Item) (x : Item) → (x.key ≡ link_key address → ⊥) → ByItself address made → ByItself address (made ++ x ∷ [])
 make_alone address made x apart alone y e key = alone y (made_fewer made x address apart y e key) key
 
-same_alone : (address : ℕ) (made : List Item) → ByItself address made → ByItself address (made ++ [])
-same_alone address made alone = (let P : List Item → Type 0 = λ items. ByItself address items in subst P (sym (append-nil made)) alone)
+-- an item of a member's own link state is made by that member
+own_alone : (n : Network) (address i : ℕ) (x : Item) → Holds n → address < 2 ^ 32 → i < 2 ^ 32 → x.key ≡ link_key (n.agents i).address → x.version.origin ≡ (n.agents i).address → ByItself address n.made → ByItself address (n.made ++ x ∷ [])
+own_alone n address i x h a b is_key origin alone y e key = elim (Contains-push_cases n.made x y e) [
+  | inl old ↦ alone y old key
+  | inr is ↦
+      (let own : link_key (n.agents i).address ≡ link_key address = sym is_key ∙ ap (λ (z : Item). z.key) is ∙ key in
+      ap (λ (z : Item). z.version.origin) (sym is) ∙ origin ∙ h.laid.addresses i ∙ same_address i address b a (ap link_key (sym (h.laid.addresses i)) ∙ own))
+]
 
-row_tells : (n : Network) (row : Row) (address : ℕ) → Greatest → address < 2 ^ 32 → May n row → MakesNoLink row → LeavesLinkState address row → IsTelling address n → Tells address ((happens n row).agents address) (happens n row).made × ByItself address (happens n row).made
-row_tells n (Make i key value) address greatest fits may static leaves s = (make_tells n address i key value may leaves s.tells, make_alone address n.made (own_item (n.agents i) n.now key value) leaves s.alone)
-row_tells n (Put link side m) address greatest fits may static leaves s =
-    (at_place (λ c e. Tells address c n.made → Tells address e n.made) (n.ends link side) _ n.agents address (λ t. record { item = t.item; kept = t.kept; value = t.value; newest = t.newest }) (λ c t. t) s.tells, s.alone)
-row_tells n (Take link side m) address greatest fits may static leaves s =
-    (tells_same address _ n.made (at_place (λ c e. Tells address c n.made → Tells address e n.made) (n.ends link side) _ n.agents address (λ t. record { item = t.item; kept = t.kept; value = t.value; newest = t.newest }) (λ c t. t) s.tells), same_alone address n.made s.alone)
-row_tells n (Handle link side (ToNeighbour m) rest) address greatest fits may static leaves s =
-    let r = handle_tells n link side m rest address s.holds may (first_plain n link side (ToNeighbour m) rest s.plain may) s.tells in
-    let P : List Item → Type 0 = λ items. ByItself address items in
-    (r.0, subst P (sym r.1) s.alone)
-row_tells n (Handle link side (ToMember m) rest) address greatest fits may static leaves s = (s.tells, s.alone)
-row_tells n (Lose link side) address greatest fits may static leaves s =
-    let i = n.ends link side in
-    let k = n.numbers link side in
-    let h = s.holds in
-    let fit = h.laid.fit link side in (
-      lose_tells n address i k (was_up (find (is_numbered k) (n.agents i).links)) (spent 1 (n.agents i).last_count) h greatest s.alone fits fit may refl may s.tells,
-      lose_alone n address i k (was_up (find (is_numbered k) (n.agents i).links)) h fits fit s.alone,
-    )
-row_tells n (Drop link side left) address greatest fits may static leaves s = (s.tells, s.alone)
-row_tells n (Enrol link side member node) address greatest fits may static leaves s = absurd static
-row_tells n (Claim link side) address greatest fits may static leaves s = absurd static
-row_tells n (Know x) address greatest fits may static leaves s = (known_tells address (is_enrolled (n.agents address)) (n.agents address) n.made x leaves s.tells, make_alone address n.made x leaves s.alone)
-row_tells n Pass address greatest fits may static leaves s = (s.tells, s.alone)
+-- the key of the link state of another member is another
+other_key : (n : Network) (address i : ℕ) → Holds n → address < 2 ^ 32 → i < 2 ^ 32 → (address ≡ i → ⊥) → link_key (n.agents i).address ≡ link_key address → ⊥
+other_key n address i h a b apart e = apart (sym (same_address i address b a (ap link_key (sym (h.laid.addresses i)) ∙ e)))
 
-rows_tell : (n : Network) (rows : List Row) (address : ℕ) → Greatest → address < 2 ^ 32 → IsRun n rows → IsStatic rows → AllLeaveLinkState address rows → IsTelling address n → IsTelling address (after_rows n rows)
-rows_tell n [] address greatest fits run static leaves s = s
-rows_tell n (row ∷ rows) address greatest fits run static leaves s =
-    let r = row_tells n row address greatest fits run.0 static.0 leaves.0 s in
-    rows_tell (happens n row) rows address greatest fits run.1 static.1 leaves.1 (record { holds = row_holds n row s.holds run.0; plain = row_plain n row s.holds s.plain run.0 static.0; tells = r.0; alone = r.1 })
+-- The agent of one member is another, and none of its link states was made
+one_told : (n : Network) (address i : ℕ) (b : Agent) (made : List Item) → ((y : Item) → Contains made y → y.key ≡ link_key address → Contains n.made y) → (HasTold address (n.agents i) n.made → HasTold address b n.made) → HasTold address (n.agents address) n.made → HasTold address (put_agent i b n.agents address) made
+one_told n address i b made fewer changed t = told_more address (put_agent i b n.agents address) n.made made fewer (at_place (λ c e. HasTold address c n.made → HasTold address e n.made) i b n.agents address changed (λ c t. t) t)
+
+-- A member makes its link state, and is then as its items and links say
+module _ (n : Network) (address : ℕ) (greatest : Greatest) (fits : address < 2 ^ 32) (i : ℕ) (near_fits : i < 2 ^ 32) (out : Option ℕ) (b : Agent) (h : Holds n) (alone : ByItself address n.made) (may : spent 1 (n.agents i).last_count ≡ None) where
+  abbrev its_state : Item
+  its_state = own_item (n.agents i) n.now (link_key (n.agents i).address) (Some (link_state out (n.agents i).links))
+
+  made_told : b.items ≡ taken (n.agents i).items its_state → link_state None b.links ≡ link_state out (n.agents i).links → HasTold address (n.agents address) n.made → HasTold address (put_agent i b n.agents address) (n.made ++ its_state ∷ [])
+  made_told items text t = put_case (λ (c : Agent). HasTold address c (n.made ++ its_state ∷ [])) address i b (n.agents address)
+      (λ same.
+      let Q : ℕ → Type 0 = λ j. (spent 1 (n.agents j).last_count ≡ None) → (b.items ≡ taken (n.agents j).items (own_item (n.agents j) n.now (link_key (n.agents j).address) (Some (link_state out (n.agents j).links)))) → (link_state None b.links ≡ link_state out (n.agents j).links)
+      → Tells address b (n.made ++ own_item (n.agents j) n.now (link_key (n.agents j).address) (Some (link_state out (n.agents j).links)) ∷ []) in
+      inl (subst Q same (λ m is says. stated_tells n address out h greatest alone m b is says) may items text))
+      (λ apart. told_more address (n.agents address) n.made (n.made ++ its_state ∷ []) (made_fewer n.made its_state address (other_key n address i h fits near_fits apart)) t)
+
+-- A link is lost
+
+dropped_told : (address k : ℕ) (a : Agent) (made : List Item) → AreApart a.links → was_up (find (is_numbered k) a.links) ≡ false → HasTold address a made → HasTold address (dropped a k) made
+dropped_told address k a made apart down t = told_same address a (dropped a k) made refl (state_same k a.links down) (let f = lost_fewer k a.links apart in f.up) t
+
+lose_told : (n : Network) (address i k : ℕ) (up : Bool) (o : Option AgentError) → Holds n → Greatest → ByItself address n.made → address < 2 ^ 32 → i < 2 ^ 32 → (up ≡ true → spent 1 (n.agents i).last_count ≡ None) → was_up (find (is_numbered k) (n.agents i).links) ≡ up → (up ≡ true → o ≡ None)
+    → HasTold address (n.agents address) n.made
+    → HasTold address (put_agent i (done (n.agents i) (cond up (unless o (dropped (stated (Some k) (n.agents i) n.now) k)) (Ok (dropped (n.agents i) k)))) n.agents address) (n.made ++ cond up (lost_item n i k ∷ []) [])
+lose_told n address i k true (Some e) h greatest alone a b may was is t = absurd (none-some e (sym (is refl)))
+lose_told n address i k true None h greatest alone a b may was is t =
+    made_told n address greatest a i b (Some k) (dropped (stated (Some k) (n.agents i) n.now) k) h alone (may refl) refl (sym (state_without k (n.agents i).links (h.laid.apart i))) t
+lose_told n address i k false o h greatest alone a b may was is t =
+    one_told n address i (dropped (n.agents i) k) (n.made ++ []) (none_made n.made address) (dropped_told address k (n.agents i) n.made (h.laid.apart i) was) t
+
+lose_alone : (n : Network) (address i k : ℕ) (up : Bool) → Holds n → address < 2 ^ 32 → i < 2 ^ 32 → ByItself address n.made → ByItself address (n.made ++ cond up (lost_item n i k ∷ []) [])
+lose_alone n address i k true h a b alone = own_alone n address i (lost_item n i k) h a b refl refl alone
+lose_alone n address i k false h a b alone = same_alone address n.made alone
+
+-- What holds of a network in which a member tells its links
+
+pub record IsTelling (address : ℕ) (n : Network) : Type 0 where
+  pub holds : Holds n
+  pub told : HasTold address (n.agents address) n.made
+  pub alone : ByItself address n.made
+
+-- the key of a member item is that of no link state
+not_state : (i address : ℕ) → member_key i ≡ link_key address → ⊥
+not_state i address e = not_link i address e
+
+module _ (address : ℕ) (greatest : Greatest) (fits : address < 2 ^ 32) where
+  raised_telling : (n : Network) (i k : ℕ) (a : Agent) (batch : List Waiting) → i < 2 ^ 32 → IsRaised (n.agents i) a k batch → spent 1 (n.agents i).last_count ≡ None → IsTelling address n → IsTelling address (with_items n i (stated None a n.now) (last_state (stated None a n.now) n.now ∷ []))
+  raised_telling n i k a batch near_fits r may s =
+      let h = s.holds in
+      let g = raise_holds n i a k batch r h in
+      let up : Network = record n { agents = put_agent i a n.agents } in
+      let b = stated None a n.now in
+      let x = last_state b n.now in
+      let mine : put_agent i a n.agents i ≡ a = at_itself i a n.agents in
+      let may_still : spent 1 (put_agent i a n.agents i).last_count ≡ None = ap (λ (c : Agent). spent 1 c.last_count) mine ∙ ap (spent 1) r.count ∙ may in
+      let P : Agent → Type 0 = λ c. HasTold address (n.agents address) n.made → HasTold address (put_agent i b n.agents address) (n.made ++ own_item c n.now (link_key c.address) (Some (link_state None c.links)) ∷ []) in
+      let stands : P (put_agent i a n.agents i) = λ t. put_case (λ (c : Agent). HasTold address c (n.made ++ own_item (put_agent i a n.agents i) n.now (link_key (put_agent i a n.agents i).address) (Some (link_state None (put_agent i a n.agents i).links)) ∷ [])) address i b (n.agents address)
+      (λ same.
+      let Q : ℕ → Type 0 = λ j. Tells address b (n.made ++ own_item (put_agent i a n.agents j) n.now (link_key (put_agent i a n.agents j).address) (Some (link_state None (put_agent i a n.agents j).links)) ∷ []) in
+      let is_a : put_agent i a n.agents address ≡ a = ap (λ (j : ℕ). put_agent i a n.agents j) same ∙ mine in
+      let may_own : spent 1 (put_agent i a n.agents address).last_count ≡ None = ap (λ (j : ℕ). spent 1 (put_agent i a n.agents j).last_count) same ∙ may_still in
+      let items : b.items ≡ taken (put_agent i a n.agents address).items (own_item (put_agent i a n.agents address) n.now (link_key (put_agent i a n.agents address).address) (Some (link_state None (put_agent i a n.agents address).links))) =
+      ap (λ (c : Agent). taken c.items (own_item c n.now (link_key c.address) (Some (link_state None c.links)))) (sym is_a) in
+      inl (subst Q same (stated_tells up address None g greatest s.alone may_own b items (ap (λ (c : Agent). link_state None c.links) (sym is_a)))))
+      (λ apart. told_more address (n.agents address) n.made (n.made ++ own_item (put_agent i a n.agents i) n.now (link_key (put_agent i a n.agents i).address) (Some (link_state None (put_agent i a n.agents i).links)) ∷ [])
+      (made_fewer n.made (own_item (put_agent i a n.agents i) n.now (link_key (put_agent i a n.agents i).address) (Some (link_state None (put_agent i a n.agents i).links))) address (other_key up address i g fits near_fits apart)) t) in
+      let own : x.key ≡ link_key (n.agents i).address = ap link_key r.address in
+      record {
+        holds = raised_states n i a k batch r may h;
+        told = subst P mine stands s.told;
+        alone = own_alone n address i x h fits near_fits own r.address s.alone;
+      }
+
+  pub telling_kept : IsKept (IsTelling address)
+  telling_kept = record {
+    quiet = λ n i b q s. record {
+      holds = quiet_called n i b q s.holds;
+      told = one_told n address i b (n.made ++ []) (none_made n.made address) (told_same address (n.agents i) b n.made q.same.items q.text q.same.fewer.up) s.told;
+      alone = same_alone address n.made s.alone;
+    };
+    introduces = λ n i near_fits may s.
+        (let a = n.agents i in
+        let x = own_item a n.now (member_key a.address) (Some a.node) in
+        let apart : x.key ≡ link_key address → ⊥ = λ e. not_state a.address address e in
+        record {
+          holds = holds_kept.introduces n i near_fits may s.holds;
+          told = one_told n address i (made None a n.now (member_key a.address) (Some a.node)) (n.made ++ x ∷ []) (made_fewer n.made x address apart) (told_other address a (made None a n.now (member_key a.address) (Some a.node)) n.made x refl refl apart) s.told;
+          alone = make_alone address n.made x apart s.alone;
+        });
+    raises = raised_telling;
+  }
+
+  -- a message that carries an item is handled
+  came_told : (n : Network) (link : ℕ) (side : Side) (number : ℕ) (m : ManagementMessage) (rest : List ManagementMessage) (x : Item) → IsTelling address n → n.sent link side ≡ m ∷ rest → carried m ≡ x ∷ []
+      → HasTold address (put_agent (n.ends link (other side)) (took number (n.agents (n.ends link (other side))) x) n.agents address) (n.made ++ []) × ByItself address (n.made ++ [])
+  came_told n link side number m rest x s first carries =
+      let to = n.ends link (other side) in
+      let h = s.holds in
+      let was = h.noted.sent link side x (first_item n link side m rest first x carries h) in (
+        one_told n address to (took number (n.agents to) x) (n.made ++ []) (none_made n.made address) (told_took address (n.agents to) number n.made x (is_newer x.version (kept_at (n.agents to).items x.key)) refl was) s.told,
+        same_alone address n.made s.alone,
+      )
+
+  -- one of an enrolment
+  near_told : (n : Network) (link : ℕ) (side : Side) (number : ℕ) (m : LinkMessage) (rest : List ManagementMessage) → IsTelling address n → n.sent link side ≡ ToNeighbour m ∷ rest → item_in m ≡ []
+      → HasTold address ((called n (n.ends link (other side)) (Handles n.now number m)).agents address) (called n (n.ends link (other side)) (Handles n.now number m)).made × ByItself address (called n (n.ends link (other side)) (Handles n.now number m)).made
+  near_told n link side number m rest s first empty =
+      let h = s.holds in
+      let on : Network = record n { sent = put_sent link side rest n.sent } in
+      let r = near_keeps (IsTelling address) telling_kept on (n.ends link (other side)) number m empty (h.laid.fit link (other side)) (record { holds = popped_holds n link side (ToNeighbour m) rest h first empty; told = s.told; alone = s.alone }) in
+      (r.told, r.alone)
+
+  handle_told : (n : Network) (link : ℕ) (side : Side) (number : ℕ) (m : LinkMessage) (rest : List ManagementMessage) → IsTelling address n → n.sent link side ≡ ToNeighbour m ∷ rest
+      → HasTold address ((called n (n.ends link (other side)) (Handles n.now number m)).agents address) (called n (n.ends link (other side)) (Handles n.now number m)).made × ByItself address (called n (n.ends link (other side)) (Handles n.now number m)).made
+  handle_told n link side number (messages.Connect invoke joiner member) rest s first = near_told n link side number (messages.Connect invoke joiner member) rest s first refl
+  handle_told n link side number (messages.ConnectR invoke denied) rest s first = near_told n link side number (messages.ConnectR invoke denied) rest s first refl
+  handle_told n link side number (messages.Start invoke from) rest s first = near_told n link side number (messages.Start invoke from) rest s first refl
+  handle_told n link side number (messages.StartR invoke) rest s first = near_told n link side number (messages.StartR invoke) rest s first refl
+  handle_told n link side number (messages.Item x) rest s first = came_told n link side number (ToNeighbour (messages.Item x)) rest x s first refl
+  handle_told n link side number (messages.Stop invoke) rest s first = near_told n link side number (messages.Stop invoke) rest s first refl
+  handle_told n link side number (messages.StopR invoke) rest s first = near_told n link side number (messages.StopR invoke) rest s first refl
+  handle_told n link side number (messages.Flood x) rest s first = came_told n link side number (ToNeighbour (messages.Flood x)) rest x s first refl
+
+  -- a link more, which is not up
+  linked_told : (n : Network) (i : ℕ) (b : Agent) (new : Link) → b.items ≡ (n.agents i).items → b.links ≡ (n.agents i).links ++ new ∷ [] → new.up ≡ false → IsTelling address n → HasTold address (put_agent i b n.agents address) (n.made ++ [])
+  linked_told n i b new items links down s = one_told n address i b (n.made ++ []) (none_made n.made address) (told_same address (n.agents i) b n.made items (ap (λ (ls : List Link). link_state None ls) links ∙ state_more (n.agents i).links new down)
+      (λ k u. up_more k (n.agents i).links new down (ap (λ (ls : List Link). was_up (find (is_numbered k) ls)) (sym links) ∙ u))) s.told
+
+  make_told : (n : Network) (i : ℕ) (key : List ℕ) (value : Option (List ℕ)) → spent 1 (n.agents i).last_count ≡ None → (key ≡ link_key address → ⊥) → IsTelling address n → HasTold address ((happens n (Make i key value)).agents address) (happens n (Make i key value)).made
+  make_told n i key value may apart s =
+      let a = n.agents i in
+      let x = own_item a n.now key value in
+      let P : Option AgentError → Type 0 = λ o. HasTold address (put_agent i (done a (unless o (made None a n.now key value))) n.agents address) (n.made ++ x ∷ []) in
+      subst P (sym may) (one_told n address i (made None a n.now key value) (n.made ++ x ∷ []) (made_fewer n.made x address apart) (told_other address a (made None a n.now key value) n.made x refl refl apart) s.told)
+
+  row_told : (n : Network) (row : Row) → May n row → LeavesLinkState address row → IsTelling address n → HasTold address ((happens n row).agents address) (happens n row).made × ByItself address (happens n row).made
+  row_told n (Make i key value) may leaves s = (make_told n i key value may leaves s, make_alone address n.made (own_item (n.agents i) n.now key value) leaves s.alone)
+  row_told n (Put link side number m) may leaves s = (one_told n address (n.ends link side) _ n.made (λ y e key. e) (told_same address (n.agents (n.ends link side)) _ n.made refl refl (λ k u. u)) s.told, s.alone)
+  row_told n (Take link side number m) may leaves s = (one_told n address (n.ends link side) _ (n.made ++ []) (none_made n.made address) (told_same address (n.agents (n.ends link side)) _ n.made refl refl (λ k u. u)) s.told, same_alone address n.made s.alone)
+  row_told n (Handle link side number (ToNeighbour m) rest) may leaves s = handle_told n link side number m rest s may.1
+  row_told n (Handle link side number (ToMember m) rest) may leaves s = (s.told, s.alone)
+  row_told n (Lose link side number) may leaves s =
+      let i = n.ends link side in
+      let h = s.holds in
+      let near_fits = h.laid.fit link side in (
+        lose_told n address i number (was_up (find (is_numbered number) (n.agents i).links)) (spent 1 (n.agents i).last_count) h greatest s.alone fits near_fits may.1 refl may.1 s.told,
+        lose_alone n address i number (was_up (find (is_numbered number) (n.agents i).links)) h fits near_fits s.alone,
+      )
+  row_told n (Leave link side number) may leaves s = (s.told, s.alone)
+  row_told n (Drop link side left) may leaves s = (s.told, s.alone)
+  row_told n (Enrol link side number i j member node) may leaves s =
+      let a = n.agents i in
+      let b = joining a number member node in
+      let P : Option AgentError → Type 0 = λ o. HasTold address (put_agent i (done a (unless o b)) n.agents address) (n.made ++ []) in
+      (subst P (sym may.4) (linked_told n i b (joining_link number (next_of a.last_invoke) node) refl refl refl s), same_alone address n.made s.alone)
+  row_told n (Claim link side number) may leaves s = (linked_told n (n.ends link side) _ (joined_link number) refl refl refl s, same_alone address n.made s.alone)
+  row_told n (Know x) may leaves s = (told_known address (is_enrolled (n.agents address)) (n.agents address) n.made x leaves s.told, make_alone address n.made x leaves s.alone)
+  row_told n Pass may leaves s = (s.told, s.alone)
+
+  rows_tell : (n : Network) (rows : List Row) → IsRun n rows → AllLeaveLinkState address rows → IsTelling address n → IsTelling address (after_rows n rows)
+  rows_tell n [] run leaves s = s
+  rows_tell n (row ∷ rows) run leaves s =
+      let r = row_told n row run.0 leaves.0 s in
+      rows_tell (happens n row) rows run.1 leaves.1 (record { holds = row_holds n row s.holds run.0; told = r.0; alone = r.1 })
 
 -- The start
 
@@ -168,106 +262,68 @@ start_tells n told address greatest s t =
           greatest_of (n.offered address) (link_key address) (kept_at (taken_all [] (n.offered address)) (link_key address)) own.0 known (greatest (n.offered address) (link_key address)) y (told_offered n told address (link_key address) own.0 y (s.knows address) own.1 (subst Q s.made e)) k);
     }
 
--- after a run a member keeps its link state as its links are, and none newer was made
-pub telling_run : Greatest → (n : Network) (told : List Item) (rows : List Row) (i : ℕ) → IsStart n told → IsRun n rows → i < 2 ^ 32 → TellsLinks n i → IsStatic rows → AllLeaveLinkState i rows → IsTelling i (after_rows n rows)
-telling_run greatest n told rows i s run fits t static leaves =
-    rows_tell n rows i greatest fits run static leaves (record { holds = begin_holds n told s; plain = start_plain n told s; tells = start_tells n told i greatest s t; alone = t.by_itself })
+start_told : (n : Network) (told : List Item) (address : ℕ) → Greatest → IsStart n told → TellsLinks n address ⊎ TellsNone n address → IsTelling address n
+start_told n told address greatest s (inl t) = record { holds = begin_holds n told s; told = inl (start_tells n told address greatest s t); alone = t.by_itself }
+start_told n told address greatest s (inr t) = record { holds = begin_holds n told s; told = inr (record { down = t.down; unmade = t.unmade }); alone = λ y e key. absurd (t.unmade y e key) }
 
-pub quiet_tells : Greatest → (n : Network) (told : List Item) (rows : List Row) (i j : ℕ) (steps : List (ℕ × Side)) → IsStart n told → IsRun n rows → i < 2 ^ 32 → TellsLinks n i → IsStatic rows → AllLeaveLinkState i rows
-    → IsQuietWalk (after_rows n rows) i steps j → value_at ((after_rows n rows).agents j).items (link_key i) ≡ Some (link_state None ((after_rows n rows).agents i).links)
-quiet_tells greatest n told rows i j steps s run fits t static leaves walk =
-    let end = telling_run greatest n told rows i s run fits t static leaves in
-    let equal = walk_equal greatest (after_rows n rows) i j steps (link_key i) end.holds walk in
-    ap (λ (o : Option Item). option_and_then (λ (x : Item). x.value) o) (sym equal ∙ end.tells.kept) ∙ end.tells.value
+-- after a run a member keeps its link state as its links are, and none newer was made; or no link of it is up, and none was made
+pub telling_run : Greatest → (n : Network) (told : List Item) (rows : List Row) (i : ℕ) → IsStart n told → IsRun n rows → i < 2 ^ 32 → TellsLinks n i ⊎ TellsNone n i → AllLeaveLinkState i rows → IsTelling i (after_rows n rows)
+telling_run greatest n told rows i s run fits t leaves = rows_tell i greatest fits n rows run leaves (start_told n told i greatest s t)
 
--- Lost links
+-- a member that told from the start tells
+tells_still : (n : Network) (rows : List Row) (i : ℕ) → HasTold i (n.agents i) n.made → (TellsNot i (n.agents i) n.made → ⊥) → Tells i (n.agents i) n.made
+tells_still n rows i (inl t) not = t
+tells_still n rows i (inr t) not = absurd (not t)
 
-abbrev pub IsGone : Network → ℕ → ℕ → Type 0
-IsGone n i k = find (is_numbered k) (n.agents i).links ≡ None
+-- what was made stays made
+made_stays : (n : Network) (row : Row) (x : Item) → Contains n.made x → Contains (happens n row).made x
+made_stays n (Make i key value) x e = Contains-append_left n.made (news (n.agents i) (Makes n.now key value)) x e
+made_stays n (Put link side number m) x e = e
+made_stays n (Take link side number m) x e = Contains-append_left n.made [] x e
+made_stays n (Handle link side number (ToNeighbour m) rest) x e = Contains-append_left n.made (news (n.agents (n.ends link (other side))) (Handles n.now number m)) x e
+made_stays n (Handle link side number (ToMember m) rest) x e = e
+made_stays n (Lose link side number) x e = Contains-append_left n.made (news (n.agents (n.ends link side)) (Loses n.now number)) x e
+made_stays n (Leave link side number) x e = e
+made_stays n (Drop link side left) x e = e
+made_stays n (Enrol link side number i j member node) x e = Contains-append_left n.made [] x e
+made_stays n (Claim link side number) x e = Contains-append_left n.made [] x e
+made_stays n (Know y) x e = Contains-append_left n.made (y ∷ []) x e
+made_stays n Pass x e = e
 
-cond_links : (newer : Bool) (a : Agent) (items : List Item) (x : Item) (link : ℕ) → (cond newer (record a { items = items; agenda = a.agenda ++ floods (Some link) x a.links }) a).links ≡ a.links
-cond_links true a items x link = refl
-cond_links false a items x link = refl
+all_stay : (n : Network) (rows : List Row) (x : Item) → Contains n.made x → Contains (after_rows n rows).made x
+all_stay n [] x e = e
+all_stay n (row ∷ rows) x e = all_stay (happens n row) rows x (made_stays n row x e)
 
-gone_at : (i k : ℕ) (b : Agent) (agents : ℕ → Agent) (j : ℕ) → (find (is_numbered k) (agents i).links ≡ None → find (is_numbered k) b.links ≡ None) → find (is_numbered k) (agents j).links ≡ None → find (is_numbered k) (put_agent i b agents j).links ≡ None
-gone_at i k b agents j changed = at_place (λ a c. find (is_numbered k) a.links ≡ None → find (is_numbered k) c.links ≡ None) i b agents j changed (λ a e. e)
+-- a walk that is not empty goes over a link of its first member that is up
+up_both : (n : Network) (l : ℕ) (d : Side) → joins n l ≡ true → is_up n l d ≡ true
+up_both n l Near e = (let both = and_parts _ _ e in both.0)
+up_both n l Far e = (let both = and_parts _ _ e in both.1)
 
-make_gone : (o : Option AgentError) (a b : Agent) (k : ℕ) → b.links ≡ a.links → find (is_numbered k) a.links ≡ None → find (is_numbered k) (done a (unless o b)).links ≡ None
-make_gone None a b k same e = ap (λ (ls : List Link). find (is_numbered k) ls) same ∙ e
-make_gone (Some r) a b k same e = e
+none_up : (s : EndState) (links : List Link) → ((k : ℕ) → was_up (find (is_numbered k) links) ≡ false) → was_up (link_at s links) ≡ false
+none_up Unmade links down = refl
+none_up (There k) links down = down k
+none_up Gone links down = refl
 
-lose_gone : (up : Bool) (o : Option AgentError) (a : Agent) (now link k : ℕ) → find (is_numbered k) a.links ≡ None → find (is_numbered k) (done a (cond up (unless o (dropped (stated (Some link) a now) link)) (Ok (dropped a link)))).links ≡ None
-lose_gone true None a now link k e = none_kept k link a.links e
-lose_gone true (Some r) a now link k e = e
-lose_gone false o a now link k e = none_kept k link a.links e
+not_not : (n : Network) (i j : ℕ) (steps : List (ℕ × Side)) → (steps ≡ [] → ⊥) → IsQuietWalk n i steps j → TellsNot i (n.agents i) n.made → ⊥
+not_not n i j [] some walk t = some refl
+not_not n i j (step ∷ steps) some walk t =
+    let off = none_up (n.states step.0 step.1) (n.agents i).links t.down in
+    both_ways (is_up n step.0 step.1) (ap (λ (k : ℕ). was_up (link_at (n.states step.0 step.1) (n.agents k).links)) walk.0 ∙ off) (up_both n step.0 step.1 walk.1)
 
-handle_gone : (n : Network) (link : ℕ) (side : Side) (m : LinkMessage) (rest : List ManagementMessage) (i k : ℕ) → is_plain (ToNeighbour m) ≡ true → IsGone n i k → IsGone (happens n (Handle link side (ToNeighbour m) rest)) i k
-handle_gone n link side (messages.Connect invoke joiner member) rest i k plain e = absurd (both_ways true (sym plain) refl)
-handle_gone n link side (messages.ConnectR invoke denied) rest i k plain e = absurd (both_ways true (sym plain) refl)
-handle_gone n link side (messages.Start invoke from) rest i k plain e = absurd (both_ways true (sym plain) refl)
-handle_gone n link side (messages.StartR invoke) rest i k plain e = absurd (both_ways true (sym plain) refl)
-handle_gone n link side (messages.Stop invoke) rest i k plain e = absurd (both_ways true (sym plain) refl)
-handle_gone n link side (messages.StopR invoke) rest i k plain e = absurd (both_ways true (sym plain) refl)
-handle_gone n link side (messages.Item x) rest i k plain e =
-    let to = n.agents (n.ends link (other side)) in
-    gone_at (n.ends link (other side)) k _ n.agents i (λ w. ap (λ (ls : List Link). find (is_numbered k) ls) (cond_links (is_newer x.version (kept_at to.items x.key)) to (taken to.items x) x (n.numbers link (other side))) ∙ w) e
-handle_gone n link side (messages.Flood x) rest i k plain e =
-    let to = n.agents (n.ends link (other side)) in
-    gone_at (n.ends link (other side)) k _ n.agents i (λ w. ap (λ (ls : List Link). find (is_numbered k) ls) (cond_links (is_newer x.version (kept_at to.items x.key)) to (taken to.items x) x (n.numbers link (other side))) ∙ w) e
+told_links : Greatest → (n : Network) (told : List Item) (rows : List Row) (i j : ℕ) (steps : List (ℕ × Side)) → IsStart n told → IsRun n rows → i < 2 ^ 32 → TellsLinks n i ⊎ (TellsNone n i × (steps ≡ [] → ⊥)) → AllLeaveLinkState i rows → IsQuietWalk (after_rows n rows) i steps j
+    → Holds (after_rows n rows) × Tells i ((after_rows n rows).agents i) (after_rows n rows).made
+told_links greatest n told rows i j steps s run fits (inl t) leaves walk =
+    let end = telling_run greatest n told rows i s run fits (inl t) leaves in
+    let own = start_tells n told i greatest s t in
+    let was = kept_made greatest n (begin_holds n told s) i (link_key i) own.item own.kept in
+    (end.holds, tells_still (after_rows n rows) rows i end.told (λ (not : TellsNot i ((after_rows n rows).agents i) (after_rows n rows).made). not.unmade own.item (all_stay n rows own.item was) (found_key (n.agents i).items (link_key i) own.item own.kept)))
+told_links greatest n told rows i j steps s run fits (inr t) leaves walk =
+    let end = telling_run greatest n told rows i s run fits (inr t.0) leaves in
+    (end.holds, tells_still (after_rows n rows) rows i end.told (not_not (after_rows n rows) i j steps t.1 walk))
 
-row_gone : (n : Network) (row : Row) (i k : ℕ) → ArePlain n → May n row → MakesNoLink row → IsGone n i k → IsGone (happens n row) i k
-row_gone n (Make j key value) i k plain may static e = gone_at j k _ n.agents i (make_gone (spent 1 (n.agents j).last_count) (n.agents j) (made None (n.agents j) n.now key value) k refl) e
-row_gone n (Put link side m) i k plain may static e = gone_at (n.ends link side) k _ n.agents i (λ w. w) e
-row_gone n (Take link side m) i k plain may static e = gone_at (n.ends link side) k _ n.agents i (λ w. w) e
-row_gone n (Handle link side (ToNeighbour m) rest) i k plain may static e = handle_gone n link side m rest i k (first_plain n link side (ToNeighbour m) rest plain may) e
-row_gone n (Handle link side (ToMember m) rest) i k plain may static e = e
-row_gone n (Lose link side) i k plain may static e =
-    gone_at (n.ends link side) k _ n.agents i (lose_gone (was_up (find (is_numbered (n.numbers link side)) (n.agents (n.ends link side)).links)) (spent 1 (n.agents (n.ends link side)).last_count) (n.agents (n.ends link side)) n.now (n.numbers link side) k) e
-row_gone n (Drop link side left) i k plain may static e = e
-row_gone n (Enrol link side member node) i k plain may static e = absurd static
-row_gone n (Claim link side) i k plain may static e = absurd static
-row_gone n (Know x) i k plain may static e = ap (λ (ls : List Link). find (is_numbered k) ls) (knower_links (is_enrolled (n.agents i)) x (n.agents i)) ∙ e
-row_gone n Pass i k plain may static e = e
-
-rows_gone : (n : Network) (rows : List Row) (i k : ℕ) → Holds n → ArePlain n → IsRun n rows → IsStatic rows → IsGone n i k → IsGone (after_rows n rows) i k
-rows_gone n [] i k h plain run static e = e
-rows_gone n (row ∷ rows) i k h plain run static e = rows_gone (happens n row) rows i k (row_holds n row h run.0) (row_plain n row h plain run.0 static.0) run.1 static.1 (row_gone n row i k plain run.0 static.0 e)
-
-just_lost : (up : Bool) (o : Option AgentError) (a : Agent) (now link : ℕ) → AreApart a.links → (up ≡ true → o ≡ None) → find (is_numbered link) (done a (cond up (unless o (dropped (stated (Some link) a now) link)) (Ok (dropped a link)))).links ≡ None
-just_lost true None a now link apart is = lost_link link a.links apart
-just_lost true (Some r) a now link apart is = absurd (none-some r (sym (is refl)))
-just_lost false o a now link apart is = lost_link link a.links apart
-
-same_ends : (n : Network) (row : Row) (l : ℕ) (d : Side) → ((happens n row).ends l d ≡ n.ends l d) × ((happens n row).numbers l d ≡ n.numbers l d)
-same_ends n (Make i key value) l d = (refl, refl)
-same_ends n (Put link side m) l d = (refl, refl)
-same_ends n (Take link side m) l d = (refl, refl)
-same_ends n (Handle link side (ToNeighbour m) rest) l d = (refl, refl)
-same_ends n (Handle link side (ToMember m) rest) l d = (refl, refl)
-same_ends n (Lose link side) l d = (refl, refl)
-same_ends n (Drop link side left) l d = (refl, refl)
-same_ends n (Enrol link side member node) l d = (refl, refl)
-same_ends n (Claim link side) l d = (refl, refl)
-same_ends n (Know x) l d = (refl, refl)
-same_ends n Pass l d = (refl, refl)
-
-all_ends : (n : Network) (rows : List Row) (l : ℕ) (d : Side) → ((after_rows n rows).ends l d ≡ n.ends l d) × ((after_rows n rows).numbers l d ≡ n.numbers l d)
-all_ends n [] l d = (refl, refl)
-all_ends n (row ∷ rows) l d = (let r = all_ends (happens n row) rows l d in let s = same_ends n row l d in (r.0 ∙ s.0, r.1 ∙ s.1))
-
-gone_from : (n : Network) (rows : List Row) (l : ℕ) (d : Side) → Holds n → ArePlain n → May n (Lose l d) → IsRun (happens n (Lose l d)) rows → IsStatic rows → has_link (after_rows (happens n (Lose l d)) rows) l d ≡ false
-gone_from n rows l d h plain may run static =
-    let i = n.ends l d in
-    let k = n.numbers l d in
-    let a = n.agents i in
-    let next = happens n (Lose l d) in
-    let lost : IsGone next i k = ap (λ (c : Agent). find (is_numbered k) c.links) (at_itself i _ n.agents) ∙ just_lost (was_up (find (is_numbered k) a.links)) (spent 1 a.last_count) a n.now k (h.laid.apart i) may in
-    let still = rows_gone next rows i k (row_holds n (Lose l d) h may) (row_plain n (Lose l d) h plain may tt) run static lost in
-    let ends = all_ends next rows l d in
-    ap (λ (j : ℕ). is_some (find (is_numbered ((after_rows next rows).numbers l d)) ((after_rows next rows).agents j).links)) ends.0
-    ∙ ap (λ (j : ℕ). is_some (find (is_numbered j) ((after_rows next rows).agents i).links)) ends.1
-    ∙ ap is_some still
-
-pub lost_is_gone : (n : Network) (told : List Item) (before rows : List Row) (l : ℕ) (d : Side) → IsStart n told → IsRun n before → May (after_rows n before) (Lose l d) → IsRun (happens (after_rows n before) (Lose l d)) rows → IsStatic before → IsStatic rows
-    → has_link (after_rows (happens (after_rows n before) (Lose l d)) rows) l d ≡ false
-lost_is_gone n told before rows l d s run may more static later = gone_from (after_rows n before) rows l d (run_holds n told before s run) (rows_plain n before (begin_holds n told s) (start_plain n told s) run static) may more later
+pub quiet_tells : Greatest → QuietTellsLinks
+quiet_tells greatest n told rows i j steps s run fits t leaves walk =
+    let end = told_links greatest n told rows i j steps s run fits t leaves walk in
+    let tells = end.1 in
+    let equal = walk_equal greatest (after_rows n rows) i j steps (link_key i) end.0 walk in
+    ap (λ (o : Option Item). option_and_then (λ (x : Item). x.value) o) (sym equal ∙ tells.kept) ∙ tells.value

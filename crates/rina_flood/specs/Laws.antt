@@ -1,14 +1,15 @@
 -- The laws of flooding, over all runs from a start.
-use Rattle.std.specs.Prelude.{◌≡◌, ℕ, ◌<◌, ◌^◌, ◌⊎◌, true, false, List, ◌∷◌, Some, None, Contains, MatchOption, Ok, []}
+use Rattle.std.specs.Prelude.{◌≡◌, ℕ, ◌<◌, ◌^◌, ◌⊎◌, true, false, List, ◌∷◌, find, Some, None, Contains, MatchOption, Ok, []}
 use Rattle.rina_enrol.specs.declared.message.LinkMessage.TheVariants as messages
 use Rattle.rina_newest.specs.declared.item.Item.{Item}
 use Rattle.rina_newest.specs.Newest.{is_below, is_newer, kept_at, value_at, IsNewest}
 use Rattle.rina_agent.specs.declared.agent.Agent.{Agent}
 use Rattle.rina_agent.specs.Agenda.{waiting_on}
 use Rattle.rina_agent.specs.Enrolled.{IsAtLeast}
+use Rattle.rina_agent.specs.Enrolments.{is_numbered}
 use Rattle.rina_agent.specs.Items.{took}
 use Rattle.rina_agent.specs.Neighbours.{link_key, link_state}
-use Rattle.rina_agent.specs.Rows.{handled}
+use Rattle.rina_agent.specs.Rows.{handled, was_up}
 use Rattle.rina_flood.specs.Network.{Side, Near, Far, other, Network, Row, Make, Know, Enrol, Claim, Lose, joins, has_link, stands, on_way, happens, May, IsRun, after_rows, IsStart}
 
 -- an item of the same key that is at least as new stands in a list
@@ -63,8 +64,8 @@ OlderIsNothing = (a : Agent) (now link : ℕ) (x : Item) → is_newer x.version 
 abbrev pub NotBack : Type 0
 NotBack = (a : Agent) (link : ℕ) (x : Item) → waiting_on link (took link a x).agenda ≡ waiting_on link a.agenda
 
--- nobody makes an item of its own under the key of a member's link state, nor is one known at once: it is made where the member loses
--- a link
+-- nobody makes an item of its own under the key of a member's link state, nor is one known at once: it is made where a link of the member
+-- comes up, and where the member loses one that is up
 abbrev pub LeavesLinkState : ℕ → Row → Type 0
 LeavesLinkState address (Make i key value) = key ≡ link_key address → ⊥
 LeavesLinkState address (Know x) = x.key ≡ link_key address → ⊥
@@ -76,8 +77,8 @@ AllLeaveLinkState address (row ∷ rows) = LeavesLinkState address row × AllLea
 
 -- no link is made: the links are those of the start
 abbrev pub MakesNoLink : Row → Type 0
-MakesNoLink (Enrol link side member node) = ⊥
-MakesNoLink (Claim link side) = ⊥
+MakesNoLink (Enrol link side number i j member node) = ⊥
+MakesNoLink (Claim link side number) = ⊥
 MakesNoLink other = Unit {0}
 
 abbrev pub IsStatic : List Row → Type 0
@@ -89,13 +90,18 @@ pub record TellsLinks (n : Network) (i : ℕ) : Type 0 where
   pub own : value_at (n.agents i).items (link_key i) ≡ Some (link_state None (n.agents i).links)
   pub by_itself : (x : Item) → Contains n.made x → x.key ≡ link_key i → x.version.origin ≡ i
 
+-- no link of a member is up, and nobody made its link state
+pub record TellsNone (n : Network) (i : ℕ) : Type 0 where
+  pub down : (number : ℕ) → was_up (find (is_numbered number) (n.agents i).links) ≡ false
+  pub unmade : (x : Item) → Contains n.made x → x.key ≡ link_key i → ⊥
+
 -- where all is quiet, each member that a walk joins to another keeps that one's link state as its links are now. So nobody there keeps one
--- that names a lost link
+-- that names a lost link. A member that told none at the start has told its links once one of them is up, as on a walk that is not empty
 abbrev pub QuietTellsLinks : Type 0
-QuietTellsLinks = (n : Network) (told : List Item) (rows : List Row) (i j : ℕ) (steps : List (ℕ × Side)) → IsStart n told → IsRun n rows → i < 2 ^ 32 → TellsLinks n i → IsStatic rows → AllLeaveLinkState i rows
+QuietTellsLinks = (n : Network) (told : List Item) (rows : List Row) (i j : ℕ) (steps : List (ℕ × Side)) → IsStart n told → IsRun n rows → i < 2 ^ 32 → TellsLinks n i ⊎ (TellsNone n i × (steps ≡ [] → ⊥)) → AllLeaveLinkState i rows
     → IsQuietWalk (after_rows n rows) i steps j → value_at ((after_rows n rows).agents j).items (link_key i) ≡ Some (link_state None ((after_rows n rows).agents i).links)
 
--- a lost link is no link of its member from then on
+-- a lost link is no link of its member from then on, whichever numbers other links get
 abbrev pub LostIsGone : Type 0
-LostIsGone = (n : Network) (told : List Item) (before rows : List Row) (l : ℕ) (d : Side) → IsStart n told → IsRun n before → May (after_rows n before) (Lose l d) → IsRun (happens (after_rows n before) (Lose l d)) rows → IsStatic before → IsStatic rows
-    → has_link (after_rows (happens (after_rows n before) (Lose l d)) rows) l d ≡ false
+LostIsGone = (n : Network) (told : List Item) (before rows : List Row) (l : ℕ) (d : Side) (number : ℕ) → IsStart n told → IsRun n before → May (after_rows n before) (Lose l d number) → IsRun (happens (after_rows n before) (Lose l d number)) rows
+    → has_link (after_rows (happens (after_rows n before) (Lose l d number)) rows) l d ≡ false

@@ -1,5 +1,5 @@
 -- The members of a DIF as a network: what stands at a moment, what happens to it, and that each is a row.
-use Rattle.std.specs.Prelude.{◌≡◌, ℕ, ◌≤◌, Bool, List, [], ◌∷◌, ◌++◌, drop, length, map, slice_get, slice_set, Option, Some, None, Ok, true, Contains, find, ◌<◌, ◌^◌}
+use Rattle.std.specs.Prelude.{◌≡◌, ℕ, ◌≤◌, ◌⊎◌, Bool, false, List, [], ◌∷◌, ◌++◌, drop, length, map, slice_get, slice_set, Option, Some, None, Ok, true, Contains, find, ◌<◌, ◌^◌}
 use Rattle.rina_enrol.specs.declared.message.LinkMessage.{LinkMessage}
 use Rattle.rina_enrol.specs.Messages.{IsInRange, IsSpelled}
 use Rattle.rina_newest.specs.Newest.{kept_at, value_at}
@@ -12,7 +12,7 @@ use Rattle.rina_agent.specs.Counts.{spent}
 use Rattle.rina_agent.specs.Enrolments.{is_numbered}
 use Rattle.rina_agent.specs.Items.{made}
 use Rattle.rina_agent.specs.Neighbours.{link_key, link_state}
-use Rattle.rina_agent.specs.Rows.{handled, lost, was_up}
+use Rattle.rina_agent.specs.Rows.{handled, joined_link, joining, lost, was_up}
 use Rattle.rina_dir.specs.Directory.{key_of}
 use Rattle.rina_plan.specs.declared.dif.LinkPlan.{LinkPlan}
 use Rattle.rina_data.specs.declared.settings.Member.{Member}
@@ -20,9 +20,9 @@ use Rattle.rina_member.specs.Knowing.{IsLaidOut, SameEdges, all_claims}
 use Rattle.rina_member.specs.Managements.{entry_of, takes_item}
 use Rattle.rina_member.specs.Short.{IsShort}
 use Rattle.rina_member.specs.Start.{HasLinksIfStatic, start_items}
-use Rattle.rina_flood.specs.Network.{Side, other, Network, Row, MayLose, IsRun, after_rows, IsStart}
-use Rattle.rina_flood.specs.Laws.{TellsLinks}
-use Rattle.rina_flood.specs.Static.{AreEnds, AreFirst, AreOfStatic, LinkEnd, end_place}
+use Rattle.rina_flood.specs.Network.{Side, Near, other, EndState, Unmade, There, Gone, Network, Row, link_at, waiting_at, MayLose, IsRun, after_rows, IsStart}
+use Rattle.rina_flood.specs.Laws.{IsStatic, TellsLinks, TellsNone}
+use Rattle.rina_flood.specs.Static.{AreEnds, AreFirst, AreOfDif, LinkEnd, end_place}
 
 -- what stands at a moment
 pub record MembersSeen : Type 0 where
@@ -64,39 +64,45 @@ AreShortTexts texts = (place : ℕ) (text : List ℕ) → Contains (texts place)
 
 -- The network
 
--- at an address that no member has, an agent has no links
+-- an address that no member has
 abbrev pub HasNoMember : List Member → ℕ → Type 0
 HasNoMember members address = (k : ℕ) (m : Member) → slice_get members k ≡ Some m → m.addr ≡ address → ⊥
 
--- the network is that of the members: their agents are its agents, the ends of the links are its ends, and the messages that are sent and
--- not handled in a direction are what was offered at its first end beyond as many texts as were handled at the other
+-- the network is that of the members: their agents are its agents, an agent at an address that no member has is without links, the ends of the
+-- links are its ends, all other links are free, and the messages that are sent and not handled in a direction are what was offered at its
+-- first end beyond as many texts as were handled at the other
 pub record IsNetworkOf (s : MembersSeen) (n : Network) : Type 0 where
   pub now : n.now ≡ s.now
   pub aligned : length s.agents ≡ length s.members
   pub agents : (k : ℕ) (m : Member) (a : Agent) → slice_get s.members k ≡ Some m → slice_get s.agents k ≡ Some a → n.agents m.addr ≡ a
   pub others : (address : ℕ) → HasNoMember s.members address → (n.agents address).links ≡ []
-  pub ends : (l : ℕ) (d : Side) (e : LinkEnd) (m : Member) → slice_get s.ends (end_place l d) ≡ Some e → slice_get s.members e.member ≡ Some m → (n.ends l d ≡ m.addr) × (n.numbers l d ≡ e.number)
+  pub within : (place : ℕ) (e : LinkEnd) → slice_get s.ends place ≡ Some e → e.member < length s.members
+  pub ends : (l : ℕ) (d : Side) (e : LinkEnd) (m : Member) → slice_get s.ends (end_place l d) ≡ Some e → slice_get s.members e.member ≡ Some m → (n.ends l d ≡ m.addr) × (n.states l d ≡ e.state)
+  pub unmade : (l : ℕ) (d : Side) → slice_get s.ends (end_place l d) ≡ None → n.states l d ≡ Unmade
   pub fewer : (l : ℕ) (d : Side) → length (s.got (end_place l (other d))) ≤ length (s.sent (end_place l d))
   pub sent : (l : ℕ) (d : Side) → AreTexts (n.sent l d) (drop (length (s.got (end_place l (other d)))) (s.sent (end_place l d)))
 
 -- the members are laid out, what stands is the network of a run from the start of the DIF, so that all laws of flooding hold of it, and
--- what was offered are short messages. In a static DIF each member told its links from the start; any other has no links
+-- what was offered are short messages. In a static DIF each member told its links from the start, and no link is made; in any other there was
+-- no link at the start, and nobody told one
 pub record IsRunOf (is_static : Bool) (plans : List LinkPlan) (s : MembersSeen) : Type 0 where
   pub laid_out : IsLaidOut s.members plans
-  pub bare : HasLinksIfStatic is_static s.ends
   pub start : Network
   pub rows : List Row
   pub starts : IsStart start (start_items is_static s.members plans)
-  pub fresh : (i : ℕ) → (start.agents i).last_count ≡ 0
+  pub fresh : (i : ℕ) → ((start.agents i).last_count ≡ 0) × ((start.agents i).last_invoke ≡ 0)
   pub tells : is_static ≡ true → (m : Member) → Contains s.members m → TellsLinks start m.addr
+  pub free : is_static ≡ false → (l : ℕ) (d : Side) → start.states l d ≡ Unmade
+  pub tells_none : is_static ≡ false → (m : Member) → Contains s.members m → TellsNone start m.addr
   pub run : IsRun start rows
-  pub static : AreOfStatic rows
+  pub of : AreOfDif rows
+  pub static : is_static ≡ true → IsStatic rows
   pub is : IsNetworkOf s (after_rows start rows)
   pub short : AreShortTexts s.sent
 
 -- What happens
 
--- members as they start: nothing was offered or handled
+-- members as they start: nothing was offered or handled, and a DIF that is not static has no links
 pub record StartsWith (is_static : Bool) (plans : List LinkPlan) (s : MembersSeen) : Type 0 where
   pub laid_out : IsLaidOut s.members plans
   pub bare : HasLinksIfStatic is_static s.ends
@@ -132,19 +138,68 @@ pub record GoesOn (old new : MembersSeen) : Type 0 where
   pub sent : AreSame old.sent new.sent
   pub got : AreSame old.got new.got
 
--- the member at an end of a link loses it
+-- the member at an end of a link that is there loses it, and the end is gone, or keeps its number, so that no other link gets it. The other end
+-- stays as it is: it may still be there
 pub record LosesLinkAt (old new : MembersSeen) : Type 0 where
   pub link : ℕ
   pub side : Side
   pub end : LinkEnd
   pub agent : Agent
   pub at : IsAgentAt old link side end agent
-  pub may : MayLose agent end.number
+  pub number : ℕ
+  pub there : end.state ≡ There number
+  pub may : MayLose agent number
   pub after : Agent
-  pub loses : lost agent old.now end.number ≡ Ok after
-  pub stays : Stays old new
+  pub loses : lost agent old.now number ≡ Ok after
+  pub members : new.members ≡ old.members
+  pub ends : (new.ends ≡ old.ends) ⊎ (new.ends ≡ slice_set old.ends (end_place link side) (record end { state = Gone }))
   pub now : new.now ≡ old.now
   pub agents : new.agents ≡ slice_set old.agents end.member after
+  pub sent : AreSame old.sent new.sent
+  pub got : AreSame old.got new.got
+
+-- a member at a place may have a number for a new link: no end there has it, nor has a link of it. So no message waits for it
+pub record IsUnused (s : MembersSeen) (place : ℕ) (agent : Agent) (number : ℕ) : Type 0 where
+  pub is_agent : slice_get s.agents place ≡ Some agent
+  pub ends : (k : ℕ) (e : LinkEnd) → slice_get s.ends k ≡ Some e → e.member ≡ place → e.state ≡ There number → ⊥
+  pub links : find (is_numbered number) agent.links ≡ None
+
+-- the member at a place asks for an enrolment at the member at another, on a new link: CONNECT waits for it. The two ends of the link stand
+-- behind those that stood, the near one with its number, the far one not made; nothing was offered there
+pub record JoinsLink (old new : MembersSeen) : Type 0 where
+  pub link : ℕ
+  pub behind : length old.ends ≡ end_place link Near
+  pub place : ℕ
+  pub far : ℕ
+  pub within : far < length old.members
+  pub agent : Agent
+  pub number : ℕ
+  pub unused : IsUnused old place agent number
+  pub room : spent 1 agent.last_invoke ≡ None
+  pub member : List ℕ
+  pub node : List ℕ
+  pub unsent : (d : Side) → old.sent (end_place link d) ≡ []
+  pub members : new.members ≡ old.members
+  pub ends : new.ends ≡ old.ends ++ record { member = place; state = There number } ∷ record { member = far; state = Unmade } ∷ []
+  pub now : new.now ≡ old.now
+  pub agents : new.agents ≡ slice_set old.agents place (joining agent number member node)
+  pub sent : AreSame old.sent new.sent
+  pub got : AreSame old.got new.got
+
+-- the member at an end of a link that is not made yet gets the link: the end is made, with a number
+pub record ClaimsLink (old new : MembersSeen) : Type 0 where
+  pub link : ℕ
+  pub side : Side
+  pub end : LinkEnd
+  pub agent : Agent
+  pub at : slice_get old.ends (end_place link side) ≡ Some end
+  pub unmade : end.state ≡ Unmade
+  pub number : ℕ
+  pub unused : IsUnused old end.member agent number
+  pub members : new.members ≡ old.members
+  pub ends : new.ends ≡ slice_set old.ends (end_place link side) (record end { state = There number })
+  pub now : new.now ≡ old.now
+  pub agents : new.agents ≡ slice_set old.agents end.member (record agent { links = agent.links ++ joined_link number ∷ [] })
   pub sent : AreSame old.sent new.sent
   pub got : AreSame old.got new.got
 
@@ -174,39 +229,44 @@ pub record TakesEntry (old new : MembersSeen) : Type 0 where
   pub sent : AreSame old.sent new.sent
   pub got : AreSame old.got new.got
 
--- the first message that waits for a link at an end, a short one to a neighbour, is offered there as it is written, and waits no more;
--- the tick fits in 32 bits
+-- the first message that waits for a link at an end that is there, a short one to a neighbour, is offered there as it is written, and waits no
+-- more; the tick fits in 32 bits
 pub record OffersMessage (old new : MembersSeen) : Type 0 where
   pub link : ℕ
   pub side : Side
   pub end : LinkEnd
   pub agent : Agent
   pub at : IsAgentAt old link side end agent
+  pub number : ℕ
+  pub there : end.state ≡ There number
   pub early : old.now < 2 ^ 32
   pub message : LinkMessage
   pub short : IsShort (ToNeighbour message)
-  pub first : first_on end.number agent.agenda ≡ Some (record { link = end.number; message = ToNeighbour message })
+  pub first : first_on number agent.agenda ≡ Some (record { link = number; message = ToNeighbour message })
   pub text : List ℕ
   pub written : IsSpelled message text
   pub stays : Stays old new
   pub now : new.now ≡ old.now
-  pub agents : new.agents ≡ slice_set old.agents end.member (record agent { agenda = without_first end.number agent.agenda })
+  pub agents : new.agents ≡ slice_set old.agents end.member (record agent { agenda = without_first number agent.agenda })
   pub sent : Adds (end_place link side) text old.sent new.sent
   pub got : AreSame old.got new.got
 
--- the text behind those that were handled of one end is handled at the other, as the message that is written so
+-- the text behind those that were handled of one end is handled at the other, which is there, as the message that is written so: an item, or
+-- a message of an enrolment
 pub record HandlesMessage (old new : MembersSeen) : Type 0 where
   pub link : ℕ
   pub side : Side
   pub end : LinkEnd
   pub agent : Agent
   pub at : IsAgentAt old link (other side) end agent
+  pub number : ℕ
+  pub there : end.state ≡ There number
   pub text : List ℕ
   pub next : slice_get (old.sent (end_place link side)) (length (old.got (end_place link (other side)))) ≡ Some text
   pub message : LinkMessage
   pub read : (m : LinkMessage) → IsInRange m → IsSpelled m text → m ≡ message
   pub after : Agent
-  pub handles : handled agent old.now end.number message ≡ Ok after
+  pub handles : handled agent old.now number message ≡ Ok after
   pub stays : Stays old new
   pub now : new.now ≡ old.now
   pub agents : new.agents ≡ slice_set old.agents end.member after
@@ -221,6 +281,10 @@ StartIsRun = (is_static : Bool) (plans : List LinkPlan) (s : MembersSeen) → St
 abbrev pub KeepsRun : (MembersSeen → MembersSeen → Type 0) → Type 0
 KeepsRun Happens = (is_static : Bool) (plans : List LinkPlan) (old new : MembersSeen) → IsRunOf is_static plans old → Happens old new → IsRunOf is_static plans new
 
+-- so they are where a link is made, in a DIF that is not static
+abbrev pub KeepsEnrolling : (MembersSeen → MembersSeen → Type 0) → Type 0
+KeepsEnrolling Happens = (plans : List LinkPlan) (old new : MembersSeen) → IsRunOf false plans old → Happens old new → IsRunOf false plans new
+
 -- Where all is quiet
 
 -- the link at an end, which is one of the member at this place, is up there; no message waits for it, and all that was offered there is
@@ -230,8 +294,8 @@ pub record IsQuietAt (s : MembersSeen) (l : ℕ) (d : Side) (place : ℕ) : Type
   pub agent : Agent
   pub at : IsAgentAt s l d end agent
   pub member : end.member ≡ place
-  pub up : was_up (find (is_numbered end.number) agent.links) ≡ true
-  pub waits : waiting_on end.number agent.agenda ≡ []
+  pub up : was_up (link_at end.state agent.links) ≡ true
+  pub waits : waiting_at end.state agent.agenda ≡ []
   pub handled : length (s.got (end_place l (other d))) ≡ length (s.sent (end_place l d))
 
 -- a walk over such links: each from the member at one place to that at another
@@ -239,11 +303,11 @@ abbrev pub IsQuietPath : MembersSeen → ℕ → List (ℕ × Side × ℕ) → �
 IsQuietPath s i [] j = i ≡ j
 IsQuietPath s i (step ∷ steps) j = IsQuietAt s step.0 step.1 i × IsQuietAt s step.0 (other step.1) step.2 × IsQuietPath s step.2 steps j
 
--- the members at its ends keep the same items, key by key, and in a static DIF the one keeps the link state of the other as the other's
--- links are now
+-- the members at its ends keep the same items, key by key; and in a static DIF, and where the walk is not empty, the one keeps the link state
+-- of the other as the other's links are now. A member of another DIF has made none before one of its links is up
 abbrev pub QuietMembersAgree : Type 0
 QuietMembersAgree = (is_static : Bool) (plans : List LinkPlan) (s : MembersSeen) (i j : ℕ) (steps : List (ℕ × Side × ℕ)) (m : Member) (a b : Agent) → IsRunOf is_static plans s → IsQuietPath s i steps j → slice_get s.members i ≡ Some m → slice_get s.agents i ≡ Some a
-    → slice_get s.agents j ≡ Some b → ((key : List ℕ) → kept_at a.items key ≡ kept_at b.items key) × (is_static ≡ true → value_at b.items (link_key m.addr) ≡ Some (link_state None a.links))
+    → slice_get s.agents j ≡ Some b → ((key : List ℕ) → kept_at a.items key ≡ kept_at b.items key) × ((is_static ≡ true) ⊎ (steps ≡ [] → ⊥) → value_at b.items (link_key m.addr) ≡ Some (link_state None a.links))
 
 -- so their items claim the same edges
 abbrev pub QuietMembersClaim : Type 0

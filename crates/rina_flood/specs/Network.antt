@@ -1,6 +1,6 @@
 -- A network of members: the management of each, the links between them, and what happens to it, row by row. Each row is one call of
 -- one member, or what the connections between them do.
-use Rattle.std.specs.Prelude.{◌≡◌, ℕ, ◌+◌, ◌≤◌, ◌<◌, ◌^◌, ◌⊎◌, Bool, true, false, ◌&&◌, ◌==◌, List, ◌∷◌, ◌++◌, find, flat_map, Option, Some, None, is_some, Contains, if◌then◌else◌, []}
+use Rattle.std.specs.Prelude.{◌≡◌, ℕ, ◌+◌, ◌≤◌, ◌<◌, ◌^◌, ◌⊎◌, Bool, true, false, ◌&&◌, ◌||◌, not, ◌==◌, List, ◌∷◌, ◌++◌, find, flat_map, Option, Some, None, is_some, Contains, if◌then◌else◌, []}
 use Rattle.rina_alloc.specs.declared.message.FlowMessage.{FlowMessage}
 use Rattle.rina_enrol.specs.declared.message.LinkMessage.{LinkMessage}
 use Rattle.rina_enrol.specs.declared.message.LinkMessage.TheVariants as messages
@@ -10,6 +10,7 @@ use Rattle.rina_agent.specs.declared.agent.Agent.{Agent}
 use Rattle.rina_agent.specs.declared.link.Link.{Link}
 use Rattle.rina_agent.specs.declared.message.ManagementMessage.{ManagementMessage}
 use Rattle.rina_agent.specs.declared.message.ManagementMessage.TheVariants.{ToNeighbour, ToMember}
+use Rattle.rina_agent.specs.declared.message.Waiting.{Waiting}
 use Rattle.rina_agent.specs.declared.state.MemberState.{MemberState}
 use Rattle.rina_agent.specs.declared.state.MemberState.TheVariants as states
 use Rattle.rina_agent.specs.Agenda.{first_on, waiting_on}
@@ -38,16 +39,23 @@ is_side Far Far = true
 abbrev pub is_direction : ℕ → Side → ℕ → Side → Bool
 is_direction link side l d = (l == link) && is_side side d
 
--- Members are named by their addresses. A link has a member at each end, and each of the two has a number of its own for it. A link whose
--- number neither of them has is not there.
+-- An end of a link is not made yet; it is there, with the number that its member has for the link; or it is gone: its member lost the link,
+-- and the number may be that of another
+pub data EndState : Type 0 where
+  Unmade : EndState
+  There : (number : ℕ) → EndState
+  Gone : EndState
+
+-- Members are named by their addresses. A link has a member at each end, and each of the two has a number of its own for it while its
+-- end is there. A link of which no end was made yet is free.
 pub record Network : Type 0 where
   -- the tick
   pub now : ℕ
   -- the management of the member of each address; at an address that no member has, any, to which nothing happens
   pub agents : ℕ → Agent
-  -- the member at each end of a link, and the number that the link has there
+  -- the member at each end of a link, or that which will be there, and what became of the end; the member at an end of a free link is any
   pub ends : ℕ → Side → ℕ
-  pub numbers : ℕ → Side → ℕ
+  pub states : ℕ → Side → EndState
   -- of each direction, the messages that were taken from the sender's agenda and not handled at the other end, first in first
   pub sent : ℕ → Side → List ManagementMessage
   -- two journals: the items that were made, those of the start among them, and of each member the items that it made or was offered
@@ -56,25 +64,43 @@ pub record Network : Type 0 where
 
 -- What is seen of a network
 
+-- of the links of a member the one of an end that is there, and the messages that wait for it
+abbrev pub link_at : EndState → List Link → Option Link
+link_at (There number) links = find (is_numbered number) links
+link_at other links = None
+
+abbrev pub waiting_at : EndState → List Waiting → List ManagementMessage
+waiting_at (There number) agenda = waiting_on number agenda
+waiting_at other agenda = []
+
 -- one end of a link is up
 abbrev pub is_up : Network → ℕ → Side → Bool
-is_up n l d = was_up (find (is_numbered (n.numbers l d)) (n.agents (n.ends l d)).links)
+is_up n l d = was_up (link_at (n.states l d) (n.agents (n.ends l d)).links)
 
 -- a link is up at both ends
 abbrev pub joins : Network → ℕ → Bool
 joins n l = is_up n l Near && is_up n l Far
 
--- the member at one end has not lost the link
+-- the member at one end has the link: the end is made, and not lost
 abbrev pub has_link : Network → ℕ → Side → Bool
-has_link n l d = is_some (find (is_numbered (n.numbers l d)) (n.agents (n.ends l d)).links)
+has_link n l d = is_some (link_at (n.states l d) (n.agents (n.ends l d)).links)
 
--- a direction stands: the sender's end is up, and the other end has not lost the link
+-- the member at an end that was made has lost the link
+abbrev pub has_lost : EndState → List Link → Bool
+has_lost Unmade links = false
+has_lost (There number) links = not (is_some (find (is_numbered number) links))
+has_lost Gone links = true
+
+abbrev pub is_lost : Network → ℕ → Side → Bool
+is_lost n l d = has_lost (n.states l d) (n.agents (n.ends l d)).links
+
+-- a direction stands: the sender's end is up, and the member at the other end has the link
 abbrev pub stands : Network → ℕ → Side → Bool
 stands n l d = is_up n l d && has_link n l (other d)
 
 -- the messages of a direction that are not handled: those that were taken from the agenda, and behind them those that wait there
 abbrev pub unhandled : Network → ℕ → Side → List ManagementMessage
-unhandled n l d = n.sent l d ++ waiting_on (n.numbers l d) (n.agents (n.ends l d)).agenda
+unhandled n l d = n.sent l d ++ waiting_at (n.states l d) (n.agents (n.ends l d)).agenda
 
 -- the item that a message carries
 abbrev pub item_in : LinkMessage → List Item
@@ -129,6 +155,13 @@ put_offers i items offered j = if j == i then offered j ++ items else offered j
 abbrev pub put_sent : ℕ → Side → List ManagementMessage → (ℕ → Side → List ManagementMessage) → ℕ → Side → List ManagementMessage
 put_sent link side ms sent l d = if is_direction link side l d then ms else sent l d
 
+abbrev pub put_state : ℕ → Side → EndState → (ℕ → Side → EndState) → ℕ → Side → EndState
+put_state link side state states l d = if is_direction link side l d then state else states l d
+
+-- a link is between two members: that at a side, and that at the other
+abbrev pub put_ends : ℕ → Side → ℕ → ℕ → (ℕ → Side → ℕ) → ℕ → Side → ℕ
+put_ends link side i j ends l d = if l == link then (if is_side side d then i else j) else ends l d
+
 -- a call of a member
 abbrev pub called : Network → ℕ → Event → Network
 called n i e = record n {
@@ -137,22 +170,24 @@ called n i e = record n {
   offered = put_offers i (offers (n.agents i) e) n.offered;
 }
 
+-- where a row names the number of a link, it is that of the end at which it happens
 pub data Row : Type 0 where
   -- a member makes an item of its own, such as a directory entry
   Make : (i : ℕ) (key : List ℕ) (value : Option (List ℕ)) → Row
   -- a message about a flow is put on a link, among the others
-  Put : (link : ℕ) (side : Side) (m : FlowMessage) → Row
+  Put : (link : ℕ) (side : Side) (number : ℕ) (m : FlowMessage) → Row
   -- the first message that waits for a link is taken, and sent
-  Take : (link : ℕ) (side : Side) (m : ManagementMessage) → Row
+  Take : (link : ℕ) (side : Side) (number : ℕ) (m : ManagementMessage) → Row
   -- the first message of a direction is handled at its other end
-  Handle : (link : ℕ) (side : Side) (m : ManagementMessage) (rest : List ManagementMessage) → Row
-  -- the member at one end of a link loses it
-  Lose : (link : ℕ) (side : Side) → Row
+  Handle : (link : ℕ) (side : Side) (number : ℕ) (m : ManagementMessage) (rest : List ManagementMessage) → Row
+  -- the member at one end of a link loses it; and the end is gone, so that its number may be that of another link
+  Lose : (link : ℕ) (side : Side) (number : ℕ) → Row
+  Leave : (link : ℕ) (side : Side) (number : ℕ) → Row
   -- some messages that were sent on a link that an end has lost are lost
   Drop : (link : ℕ) (side : Side) (left : List ManagementMessage) → Row
-  -- a member asks for an enrolment on a new link, and the member at the other end gets that link
-  Enrol : (link : ℕ) (side : Side) (member node : List ℕ) → Row
-  Claim : (link : ℕ) (side : Side) → Row
+  -- member i asks for an enrolment on a new link to member j, and its end is made; the end of member j is made, when it gets that link
+  Enrol : (link : ℕ) (side : Side) (number i j : ℕ) (member node : List ℕ) → Row
+  Claim : (link : ℕ) (side : Side) (number : ℕ) → Row
   -- each enrolled member takes an item at once, without a flood, as where a static flow is bound
   Know : (x : Item) → Row
   -- a tick passes
@@ -187,21 +222,36 @@ known n x = record n {
   offered = λ i. n.offered i ++ (if is_enrolled (n.agents i) then x ∷ [] else []);
 }
 
+-- an end of a link is gone, or made
+abbrev pub with_state : Network → ℕ → Side → EndState → Network
+with_state n link side state = record n { states = put_state link side state n.states }
+
+-- a new link is between two members, and has a number at the first
+abbrev pub laid : Network → ℕ → Side → ℕ → ℕ → ℕ → Network
+laid n link side number i j = record n { ends = put_ends link side i j n.ends; states = put_state link side (There number) n.states }
+
 abbrev pub happens : Network → Row → Network
 happens n (Make i key value) = called n i (Makes n.now key value)
-happens n (Put link side m) = record n { agents = put_agent (n.ends link side) (with_message (n.agents (n.ends link side)) (n.numbers link side) m) n.agents }
-happens n (Take link side m) = called (record n { sent = put_sent link side (n.sent link side ++ m ∷ []) n.sent }) (n.ends link side) (Takes (n.numbers link side))
-happens n (Handle link side m rest) = comes m (record n { sent = put_sent link side rest n.sent }) (n.ends link (other side)) (n.numbers link (other side))
-happens n (Lose link side) = called n (n.ends link side) (Loses n.now (n.numbers link side))
+happens n (Put link side number m) = record n { agents = put_agent (n.ends link side) (with_message (n.agents (n.ends link side)) number m) n.agents }
+happens n (Take link side number m) = called (record n { sent = put_sent link side (n.sent link side ++ m ∷ []) n.sent }) (n.ends link side) (Takes number)
+happens n (Handle link side number m rest) = comes m (record n { sent = put_sent link side rest n.sent }) (n.ends link (other side)) number
+happens n (Lose link side number) = called n (n.ends link side) (Loses n.now number)
+happens n (Leave link side number) = with_state n link side Gone
 happens n (Drop link side left) = record n { sent = put_sent link side left n.sent }
-happens n (Enrol link side member node) = called n (n.ends link side) (Enrols (n.numbers link side) member node)
-happens n (Claim link side) = called n (n.ends link side) (Claims (n.numbers link side))
+happens n (Enrol link side number i j member node) = called (laid n link side number i j) i (Enrols number member node)
+happens n (Claim link side number) = called (with_state n link side (There number)) (n.ends link side) (Claims number)
 happens n (Know x) = known n x
 happens n Pass = record n { now = n.now + 1 }
 
--- a link is new at an end: no link of that member has its number, and the other end is not up
-abbrev pub IsNewLink : Network → ℕ → Side → Type 0
-IsNewLink n l d = (find (is_numbered (n.numbers l d)) (n.agents (n.ends l d)).links ≡ None) × (is_up n l (other d) ≡ false)
+-- a link is free: no end of it was made, and nothing was sent
+abbrev pub IsFree : Network → ℕ → Type 0
+IsFree n link = (d : Side) → (n.states link d ≡ Unmade) × (n.sent link d ≡ [])
+
+-- a member may have a number for a new link: no end of a link at that member has it, nor has a link of it, and no message waits for it
+pub record IsNewNumber (n : Network) (i number : ℕ) : Type 0 where
+  pub ends : (l : ℕ) (d : Side) → n.ends l d ≡ i → n.states l d ≡ There number → ⊥
+  pub links : find (is_numbered number) (n.agents i).links ≡ None
+  pub agenda : waiting_on number (n.agents i).agenda ≡ []
 
 -- An item may be known at once: a link that stands and has an enrolled sender has one at its other end too, so that neither is to tell
 -- the other; and the item is no later than now and no more than its maker has counted, and the only one of its key and version
@@ -215,17 +265,19 @@ pub record MayBeKnown (n : Network) (x : Item) : Type 0 where
 abbrev pub MayLose : Agent → ℕ → Type 0
 MayLose a number = was_up (find (is_numbered number) a.links) ≡ true → spent 1 a.last_count ≡ None
 
--- When a row may happen: a call is not refused, the message that is taken or handled is the first one, a connection loses messages
--- only where an end has lost the link, and a new link has a number that no link of its member has
+-- When a row may happen: an end at which it happens is there, a message about a flow is put on a link that its member has, a call is not
+-- refused, the message that is taken or handled is the first one, an end is gone only where its member lost the link, a connection loses
+-- messages only where an end has lost the link, and an end that is made has a new number. The end that is made second is so before the first is up
 abbrev pub May : Network → Row → Type 0
 May n (Make i key value) = spent 1 (n.agents i).last_count ≡ None
-May n (Put link side m) = Unit {0}
-May n (Take link side m) = first_on (n.numbers link side) (n.agents (n.ends link side)).agenda ≡ Some (record { link = n.numbers link side; message = m })
-May n (Handle link side m rest) = n.sent link side ≡ m ∷ rest
-May n (Lose link side) = MayLose (n.agents (n.ends link side)) (n.numbers link side)
-May n (Drop link side left) = ((has_link n link Near && has_link n link Far) ≡ false) × ((m : ManagementMessage) → Contains left m → Contains (n.sent link side) m)
-May n (Enrol link side member node) = IsNewLink n link side × (spent 1 (n.agents (n.ends link side)).last_invoke ≡ None)
-May n (Claim link side) = IsNewLink n link side
+May n (Put link side number m) = (n.states link side ≡ There number) × (is_some (find (is_numbered number) (n.agents (n.ends link side)).links) ≡ true)
+May n (Take link side number m) = (n.states link side ≡ There number) × (first_on number (n.agents (n.ends link side)).agenda ≡ Some (record { link = number; message = m }))
+May n (Handle link side number m rest) = (n.states link (other side) ≡ There number) × (n.sent link side ≡ m ∷ rest)
+May n (Lose link side number) = (n.states link side ≡ There number) × MayLose (n.agents (n.ends link side)) number
+May n (Leave link side number) = (n.states link side ≡ There number) × (find (is_numbered number) (n.agents (n.ends link side)).links ≡ None)
+May n (Drop link side left) = ((is_lost n link Near || is_lost n link Far) ≡ true) × ((m : ManagementMessage) → Contains left m → Contains (n.sent link side) m)
+May n (Enrol link side number i j member node) = IsFree n link × IsNewNumber n i number × (i < 2 ^ 32) × (j < 2 ^ 32) × (spent 1 (n.agents i).last_invoke ≡ None)
+May n (Claim link side number) = (n.states link side ≡ Unmade) × IsNewNumber n (n.ends link side) number × (is_up n link (other side) ≡ false)
 May n (Know x) = MayBeKnown n x
 May n Pass = Unit {0}
 
@@ -243,6 +295,10 @@ after_rows n (row ∷ rows) = after_rows (happens n row) rows
 abbrev pub AreApart : List Link → Type 0
 AreApart [] = Unit {0}
 AreApart (l ∷ links) = (find (is_numbered l.number) links ≡ None) × AreApart links
+
+-- no two ends at one member have one number
+abbrev pub AreEndsApart : Network → Type 0
+AreEndsApart n = (l : ℕ) (d : Side) (k : ℕ) (e : Side) (number : ℕ) → n.ends l d ≡ n.ends k e → n.states l d ≡ There number → n.states k e ≡ There number → (l ≡ k) × (d ≡ e)
 
 -- a member keeps the items of the start, which it took in turn
 abbrev pub KnowsAll : Network → List Item → ℕ → Type 0
@@ -266,5 +322,5 @@ pub record IsStart (n : Network) (told : List Item) : Type 0 where
   pub counted : (x : Item) → Contains told x → x.version.count ≤ (n.agents x.version.origin).last_count
   -- no two links have one number at one member, and addresses fit in 32 bits
   pub apart : (i : ℕ) → AreApart (n.agents i).links
-  pub laid : (l : ℕ) (d : Side) (k : ℕ) (e : Side) → n.ends l d ≡ n.ends k e → n.numbers l d ≡ n.numbers k e → (l ≡ k) × (d ≡ e)
+  pub laid : AreEndsApart n
   pub fit : (l : ℕ) (d : Side) → n.ends l d < 2 ^ 32

@@ -10,7 +10,7 @@ use Rattle.rina_agent.specs.declared.link.Link.{Link}
 use Rattle.rina_agent.specs.declared.message.ManagementMessage.{ManagementMessage}
 use Rattle.rina_agent.specs.declared.message.ManagementMessage.TheVariants.{ToNeighbour}
 use Rattle.rina_agent.specs.declared.state.MemberState.TheVariants.{Enrolled}
-use Rattle.rina_flood.specs.Network.{Side, Near, Far, Network, Row, Make, Know, Take, Handle, IsRun, after_rows, IsStart}
+use Rattle.rina_flood.specs.Network.{Side, Near, Far, There, Network, Row, Make, Know, Take, Handle, IsRun, after_rows, IsStart}
 use Rattle.rina_flood.specs.Laws.{IsQuietWalk}
 
 abbrev pub sample_link : ℕ → Link
@@ -36,7 +36,7 @@ sample_end l Near = 1
 sample_end l Far = 2
 
 abbrev pub sample : Rules → Network
-sample rules = record { now = 0; agents = sample_agent rules; ends = sample_end; numbers = λ l d. l; sent = λ l d. []; made = []; offered = λ i. [] }
+sample rules = record { now = 0; agents = sample_agent rules; ends = sample_end; states = λ l d. There l; sent = λ l d. []; made = []; offered = λ i. [] }
 
 abbrev pub sample_item : Item
 sample_item = record { key = codes "/dir/echo"; version = record { tick = 0; count = 1; origin = 1 }; value = Some (codes "1") }
@@ -48,7 +48,7 @@ abbrev pub sample_flood : ManagementMessage
 sample_flood = ToNeighbour (messages.Flood sample_item)
 
 abbrev pub sample_rows : List Row
-sample_rows = Know sample_entry ∷ Make 1 (codes "/dir/echo") (Some (codes "1")) ∷ Take 0 Near sample_flood ∷ Handle 0 Near sample_flood [] ∷ []
+sample_rows = Know sample_entry ∷ Make 1 (codes "/dir/echo") (Some (codes "1")) ∷ Take 0 Near 0 sample_flood ∷ Handle 0 Near 0 sample_flood [] ∷ []
 
 -- the run is one from a static start, at its end nothing is on its way on the link, and the second member keeps both entries
 pub record SampleSettles (rules : Rules) : Type 0 where

@@ -1,5 +1,5 @@
 -- The start of a DIF as a network: each member that is enrolled keeps the items of the start, and nothing waits or is on its way.
-use Rattle.std.specs.Prelude.{◌≡◌, ℕ, ◌+◌, ◌*◌, ◌<◌, ◌==◌, Bool, true, List, [], length, position, slice_get, Option, Some, None, option_and_then, option_map, unwrap_or, if◌then◌else◌, ◌∷◌, Contains, ◌≤◌, map, sum, ◌^◌}
+use Rattle.std.specs.Prelude.{◌≡◌, ℕ, ◌+◌, ◌*◌, ◌<◌, ◌==◌, Bool, true, false, List, [], length, position, slice_get, Option, Some, None, option_and_then, option_map, unwrap_or, if◌then◌else◌, ◌∷◌, Contains, ◌≤◌, ◌^◌}
 use Rattle.rina_access.specs.declared.rules.Rules.{Rules}
 use Rattle.rina_newest.specs.declared.item.Item.{Item}
 use Rattle.rina_agent.specs.declared.agent.Agent.{Agent}
@@ -12,8 +12,8 @@ use Rattle.rina_member.specs.Knowing.{AreLive, AreNumbered, IsEntryKey, IsLaidOu
 use Rattle.rina_member.specs.Managements.{entry_of}
 use Rattle.rina_member.specs.Routing.{edges_from}
 use Rattle.rina_member.specs.Start.{HasLinksIfStatic, first_version, start_items, started, starts_enrolled}
-use Rattle.rina_flood.specs.Network.{Side, Near, Far, Network, Row, Make, Know, Enrol, Claim, IsRun, after_rows, IsStart}
-use Rattle.rina_flood.specs.Laws.{AllLeaveLinkState, IsStatic, TellsLinks}
+use Rattle.rina_flood.specs.Network.{Side, Near, Far, EndState, Unmade, There, Network, Row, Make, Know, IsRun, after_rows, IsStart}
+use Rattle.rina_flood.specs.Laws.{AllLeaveLinkState, TellsLinks, TellsNone}
 
 -- Members
 
@@ -62,10 +62,10 @@ agent_at rules members agents address = or_nobody rules address (option_and_then
 
 -- Links
 
--- one end of a link: the place of its member among the members of the DIF, and the number that the link has there
+-- one end of a link: the place of its member among the members of the DIF, and what became of the end. It has a number while it is there
 pub record LinkEnd : Type 0 where
   pub member : ℕ
-  pub number : ℕ
+  pub state : EndState
 
 -- all ends of links stand in one list, the two of a link one after the other: here the place of an end
 abbrev pub end_place : ℕ → Side → ℕ
@@ -75,7 +75,7 @@ end_place l Far = 2 * l + 1
 -- each end is of a member, and no two ends at one member have one number
 pub record AreEnds (members : List Member) (ends : List LinkEnd) : Type 0 where
   pub within : (k : ℕ) (e : LinkEnd) → slice_get ends k ≡ Some e → e.member < length members
-  pub apart : (j k : ℕ) (a b : LinkEnd) → slice_get ends j ≡ Some a → slice_get ends k ≡ Some b → a.member ≡ b.member → a.number ≡ b.number → j ≡ k
+  pub apart : (j k : ℕ) (a b : LinkEnd) (number : ℕ) → slice_get ends j ≡ Some a → slice_get ends k ≡ Some b → a.member ≡ b.member → a.state ≡ There number → b.state ≡ There number → j ≡ k
 
 -- the address of the member at a place; 0 where there is none
 abbrev pub address_in : List Member → ℕ → ℕ
@@ -86,14 +86,10 @@ abbrev pub end_address : List Member → Option LinkEnd → ℕ
 end_address members None = 0
 end_address members (Some e) = address_in members e.member
 
--- a number above those of all ends
-abbrev pub number_above : List LinkEnd → ℕ
-number_above ends = sum (map (λ (e : LinkEnd). e.number) ends) + 1
-
--- the number of a link at an end; where there is no such end, one that no end has
-abbrev pub end_number : List LinkEnd → ℕ → Option LinkEnd → ℕ
-end_number ends place None = number_above ends + place
-end_number ends place (Some e) = e.number
+-- what became of an end; where there is no such end, it is not made
+abbrev pub end_state : Option LinkEnd → EndState
+end_state None = Unmade
+end_state (Some e) = e.state
 
 -- The network
 
@@ -103,7 +99,7 @@ first_network is_static rules members plans agents ends now = record {
   now = now;
   agents = agent_at rules members agents;
   ends = λ l d. end_address members (slice_get ends (end_place l d));
-  numbers = λ l d. end_number ends (end_place l d) (slice_get ends (end_place l d));
+  states = λ l d. end_state (slice_get ends (end_place l d));
   sent = λ l d. [];
   made = start_items is_static members plans;
   offered = λ i. if starts_enrolled is_static members i then start_items is_static members plans else [];
@@ -119,30 +115,33 @@ abbrev pub StaticTellsLinks : Type 0
 StaticTellsLinks = (rules : Rules) (members : List Member) (plans : List LinkPlan) (agents : List Agent) (ends : List LinkEnd) (now : ℕ) (m : Member) → IsLaidOut members plans → AreFirst true members plans agents → Contains members m
     → TellsLinks (first_network true rules members plans agents ends now) m.addr
 
+-- in that of any other nobody tells a link yet
+abbrev pub OthersTellNone : Type 0
+OthersTellNone = (rules : Rules) (members : List Member) (plans : List LinkPlan) (agents : List Agent) (ends : List LinkEnd) (now : ℕ) (m : Member) → IsLaidOut members plans → AreFirst false members plans agents → Contains members m
+    → TellsNone (first_network false rules members plans agents ends now) m.addr
+
 -- Rows
 
 -- the directory entry of an application that is registered at an address of 32 bits from the start
 abbrev pub IsFirstEntry : Item → Type 0
 IsFirstEntry x = (app : List ℕ) × (address : ℕ) × (x ≡ entry_of app address) × (address < 2 ^ 32)
 
--- what happens to a static DIF: no link is made, a member makes no item but directory entries, and its link state where it loses a link;
--- and what is known at once is a directory entry
-abbrev pub IsOfStatic : Row → Type 0
-IsOfStatic (Make i key value) = IsEntryKey key × (i < 2 ^ 32)
-IsOfStatic (Enrol link side member node) = ⊥
-IsOfStatic (Claim link side) = ⊥
-IsOfStatic (Know x) = IsFirstEntry x
-IsOfStatic other = Unit {0}
+-- what happens to a DIF: a member makes no item but directory entries, its link state where a link comes up or one that is up is lost, and
+-- its member item where it enters; and what is known at once is a directory entry
+abbrev pub IsOfDif : Row → Type 0
+IsOfDif (Make i key value) = IsEntryKey key × (i < 2 ^ 32)
+IsOfDif (Know x) = IsFirstEntry x
+IsOfDif other = Unit {0}
 
-abbrev pub AreOfStatic : List Row → Type 0
-AreOfStatic [] = Unit {0}
-AreOfStatic (row ∷ rows) = IsOfStatic row × AreOfStatic rows
+abbrev pub AreOfDif : List Row → Type 0
+AreOfDif [] = Unit {0}
+AreOfDif (row ∷ rows) = IsOfDif row × AreOfDif rows
 
--- so the laws of lost links hold of each member
-abbrev pub StaticRowsLeaveLinks : Type 0
-StaticRowsLeaveLinks = (rows : List Row) → AreOfStatic rows → IsStatic rows × ((address : ℕ) → AllLeaveLinkState address rows)
+-- so the laws of link states hold of each member
+abbrev pub RowsLeaveLinks : Type 0
+RowsLeaveLinks = (rows : List Row) (address : ℕ) → AreOfDif rows → AllLeaveLinkState address rows
 
 -- whatever happened, no other item was made of the key and the version of a directory entry from the start
 abbrev pub EntriesAreOne : Type 0
-EntriesAreOne = (is_static : Bool) (n : Network) (members : List Member) (plans : List LinkPlan) (rows : List Row) (x : Item) (app : List ℕ) (address : ℕ) → IsStart n (start_items is_static members plans) → IsRun n rows → AreOfStatic rows
+EntriesAreOne = (is_static : Bool) (n : Network) (members : List Member) (plans : List LinkPlan) (rows : List Row) (x : Item) (app : List ℕ) (address : ℕ) → IsStart n (start_items is_static members plans) → IsRun n rows → AreOfDif rows
     → Contains (after_rows n rows).made x → x.key ≡ key_of app → x.version ≡ first_version address → x ≡ entry_of app address

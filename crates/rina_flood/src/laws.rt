@@ -4,9 +4,9 @@ ghost use Rattle.rina_flood.specs.Coming.{WhatComes};
 ghost use Rattle.rina_flood.specs.Gap.{GapBreaks};
 ghost use Rattle.rina_flood.specs.Journals.{ArrivalsAddNone, OffersAdd, OthersAddNone, PassesAdd};
 ghost use Rattle.rina_flood.specs.Laws.{DirectionsOwe, LostIsGone, NewestIsKept, NotBack, OlderIsNothing, OnlyMadeIsSent, OrderIsNothing, QuietIsEqual, QuietTellsLinks};
-ghost use Rattle.rina_flood.specs.Members.{GoesOn, HandlesMessage, KeepsRun, LosesLinkAt, MakesEntryAt, OffersMessage, QuietMembersAgree, QuietMembersClaim, StartIsRun, TakesEntry};
+ghost use Rattle.rina_flood.specs.Members.{ClaimsLink, GoesOn, HandlesMessage, JoinsLink, KeepsEnrolling, KeepsRun, LosesLinkAt, MakesEntryAt, OffersMessage, QuietMembersAgree, QuietMembersClaim, StartIsRun, TakesEntry};
 ghost use Rattle.rina_flood.specs.Sample.{SampleSettles};
-ghost use Rattle.rina_flood.specs.Static.{EntriesAreOne, MembersStart, StaticRowsLeaveLinks, StaticTellsLinks};
+ghost use Rattle.rina_flood.specs.Static.{EntriesAreOne, MembersStart, OthersTellNone, RowsLeaveLinks, StaticTellsLinks};
 
 /// In each direction of a link whose sender's end is up and whose other end is not lost: of each key that the sender keeps, the other
 /// end keeps an item at least as new, or one is on its way. So where nothing is on its way on the links of a walk, the members at
@@ -34,8 +34,8 @@ pub fn floods_end()
     ensures not_back { NotBack }
 {}
 
-/// Where no link is made: a lost link is gone for good, and once all is quiet nobody that links join to its ends keeps a link state
-/// that names it.
+/// A lost link is gone for good, whatever other links get its number, and once all is quiet nobody that links join to its ends keeps a
+/// link state that names it.
 pub fn lost_links_are_told()
     ensures quiet { QuietTellsLinks }
     ensures gone { LostIsGone }
@@ -55,25 +55,27 @@ pub fn a_gap_loses_an_item()
 
 /// A DIF starts so: its members that are enrolled keep the same items, and nothing is on its way. In a static DIF these are the member
 /// items and the link states of all members, and the link state of each names its links. In any other the first member keeps its
-/// own member item, and there are no links.
+/// own member item, and nobody tells a link.
 pub fn members_start_as_a_network()
     ensures starts { MembersStart }
     ensures tells { StaticTellsLinks }
+    ensures tells_none { OthersTellNone }
 {
     rina_newest::newest_of_all_takes();
 }
 
-/// What happens to a static DIF leaves the link states of its members to them, and of a directory entry from the start there is one
+/// What happens to a DIF leaves the link states of its members to them, and of a directory entry from the start there is one
 /// item.
-pub fn a_static_dif_tells_links_and_entries()
-    ensures links { StaticRowsLeaveLinks }
+pub fn a_dif_tells_links_and_entries()
+    ensures links { RowsLeaveLinks }
     ensures entries { EntriesAreOne }
 {}
 
-/// The members of a DIF are a network after some run: as they start, as the clock goes on, and after the loss of a link,
-/// a directory entry that one makes or that all take, a message that is offered to a link and one that is handled. So where all is quiet on a walk
-/// of links, the members at its ends keep the same items, which claim the same edges, and in a static DIF each keeps the other's
-/// link state as the other's links are now.
+/// The members of a DIF are a network after some run: as they start, as the clock goes on, and after the loss of a link at one of its ends,
+/// a directory entry that one makes or that all take, a message that is offered to a link and one that is handled; and in a DIF that is not static,
+/// where a member asks for an enrolment on a new link, and where the member at its other end gets that link. So where all is quiet on a
+/// walk of links, the members at its ends keep the same items, which claim the same edges, and each keeps the other's link state as the
+/// other's links are now.
 pub fn members_are_a_network()
     ensures start { StartIsRun }
     ensures goes_on { KeepsRun GoesOn }
@@ -82,14 +84,16 @@ pub fn members_are_a_network()
     ensures takes { KeepsRun TakesEntry }
     ensures offers { KeepsRun OffersMessage }
     ensures handles { KeepsRun HandlesMessage }
+    ensures joins { KeepsEnrolling JoinsLink }
+    ensures claims_link { KeepsEnrolling ClaimsLink }
     ensures quiet { QuietMembersAgree }
     ensures claims { QuietMembersClaim }
 {
     rina_newest::newest_of_all_takes();
 }
 
-/// What comes over a link of a DIF is a short message of one of its members, which brings an item. Where that is the link
-/// state of the member to which it comes, this keeps one as new: a member alone makes its link state.
+/// What comes over a link of a DIF is a short message of one of its members. Where it brings the link state of the member to which
+/// it comes, this keeps one as new: a member alone makes its link state. In a static DIF each brings an item.
 pub fn what_comes_was_made_by_a_member()
     ensures { WhatComes }
 {

@@ -55,8 +55,20 @@ pub trait Facility {
     /// Whether `free` frees the other end of the flow at once.
     ghost frees_both: { Self → Bool };
 
-    /// What `bind` does with what it answers, to the whole: what is not shown included.
+    /// What `register` does with what it answers, to the whole: what is not shown included.
+    ghost does_register: { Self → ℕ → ℕ → List ℕ → Result (Unit {0}) RegisterError → Self → Type 0 };
+
+    /// What `unregister` does with what it answers, to the whole.
+    ghost does_unregister: { Self → ℕ → ℕ → List ℕ → Result (Unit {0}) UnregisterError → Self → Type 0 };
+
+    /// What `allocate` does with what it answers, to the whole.
+    ghost does_allocate: { Self → Ask → Result Port AllocateError → Self → Type 0 };
+
+    /// What `bind` does with what it answers, to the whole.
     ghost does_bind: { Self → Fixed → Result (Port × Port) AllocateError → Self → Type 0 };
+
+    /// What `incoming` does with what it answers, to the whole.
+    ghost does_incoming: { Self → ℕ → ℕ → List ℕ → Option Port → Self → Type 0 };
 
     /// What `send` does with what it answers, to the whole.
     ghost does_send: { Self → Port → List ℕ → Result Num SendError → Self → Type 0 };
@@ -104,7 +116,8 @@ pub trait Facility {
         ensures below { same_below self.old self.new }
         ensures later { IsLater (seen self.old) (seen self.new) }
         ensures does { Registers (refuses_register self.old fac node app.now)
-            (seen self.old) fac node app.now result (seen self.new) };
+            (seen self.old) fac node app.now result (seen self.new) }
+        ensures whole { does_register self.old fac node app.now result self.new };
 
     /// Ends the registration of an application at a node.
     fn unregister(
@@ -119,7 +132,8 @@ pub trait Facility {
         ensures below { same_below self.old self.new }
         ensures later { IsLater (seen self.old) (seen self.new) }
         ensures does { Unregisters (refuses_unregister self.old fac node app.now)
-            (seen self.old) fac node app.now result (seen self.new) };
+            (seen self.old) fac node app.now result (seen self.new) }
+        ensures whole { does_unregister self.old fac node app.now result self.new };
 
     /// Asks for a flow, and answers the port of its end.
     fn allocate(&mut self, alloc: Global, ask: &Ask) -> Result<Port, AllocateError>
@@ -128,7 +142,8 @@ pub trait Facility {
         ensures below { same_below self.old self.new }
         ensures later { IsLater (seen self.old) (seen self.new) }
         ensures does { Allocates (refuses_allocate self.old ask.now)
-            (seen self.old) ask.now result (seen self.new) };
+            (seen self.old) ask.now result (seen self.new) }
+        ensures whole { does_allocate self.old ask.now result self.new };
 
     /// Makes a flow that the stack fixes, both ends of which are allocated and claimed, and registers the
     /// application of the far end. It answers the ports of both ends.
@@ -147,7 +162,8 @@ pub trait Facility {
         ensures valid { valid self.new }
         ensures below { same_below self.old self.new }
         ensures later { IsLater (seen self.old) (seen self.new) }
-        ensures does { Claims (seen self.old) fac node app.now result (seen self.new) };
+        ensures does { Claims (seen self.old) fac node app.now result (seen self.new) }
+        ensures whole { does_incoming self.old fac node app.now result self.new };
 
     /// Sends an SDU, and answers its number.
     fn send(&mut self, alloc: Global, port: Port, sdu: &[u8]) -> Result<Num, SendError>

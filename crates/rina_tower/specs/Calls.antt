@@ -91,17 +91,29 @@ RegistersAtTop fac node app result (Rank' p difs below) (Rank' p' difs' below') 
     AtDif fac (RegistersFrom fac node app result) (result ≡ Err register.NoMember) difs difs' × (below' ≡ below)
 RegistersAtTop fac node app result t t' = ⊥
 
+-- the same, whether or not an allocation had failed before
+abbrev pub RegistersWhole : Tower → ℕ → ℕ → List ℕ → Result (Unit {0}) RegisterError → Tower → Type 0
+RegistersWhole t fac node app result t' = (has_failed t ≡ false → RegistersAtTop fac node app result t t') × (has_failed t ≡ true → (result ≡ Err register.Memory) × (t' ≡ t))
+
 abbrev pub UnregistersAtTop : ℕ → ℕ → List ℕ → Result (Unit {0}) UnregisterError → Tower → Tower → Type 0
 UnregistersAtTop fac node app result (Wires a) (Wires a') = UnregistersOn a fac node app result a'
 UnregistersAtTop fac node app result (Rank' p difs below) (Rank' p' difs' below') =
     AtDif fac (UnregistersFrom fac node app result) (result ≡ Err unregister.NotThere) difs difs' × (below' ≡ below)
 UnregistersAtTop fac node app result t t' = ⊥
 
+-- the same, whether or not an allocation had failed before
+abbrev pub UnregistersWhole : Tower → ℕ → ℕ → List ℕ → Result (Unit {0}) UnregisterError → Tower → Type 0
+UnregistersWhole t fac node app result t' = (has_failed t ≡ false → UnregistersAtTop fac node app result t t') × (has_failed t ≡ true → (result ≡ Err unregister.Memory) × (t' ≡ t))
+
 abbrev pub AllocatesAtTop : Ask → Result Port AllocateError → Tower → Tower → Type 0
 AllocatesAtTop ask result (Wires a) (Wires a') = AllocatesOn a ask result a'
 AllocatesAtTop ask result (Rank' p difs below) (Rank' p' difs' below') =
     AtDif ask.fac (Serves (λ s s'. Allocates (Some allocate.Unbuilt) s ask result s') ChangesNothing ask.fac) (result ≡ Err allocate.NoMember) difs difs' × (below' ≡ below)
 AllocatesAtTop ask result t t' = ⊥
+
+-- the same, whether or not an allocation had failed before
+abbrev pub AllocatesWhole : Tower → Ask → Result Port AllocateError → Tower → Type 0
+AllocatesWhole t ask result t' = (has_failed t ≡ false → AllocatesAtTop ask result t t') × (has_failed t ≡ true → (result ≡ Err allocate.Memory) × (t' ≡ t))
 
 -- what `bind` does at the DIF of a fixed flow, to the managements of its members too, where each connection that was there stays as it was
 pub record BindsFrom (fixed : Fixed) (result : Result (Port × Port) AllocateError) (d d' : Dif) : Type 0 where

@@ -16,7 +16,7 @@ ghost use Rattle.rina_iface.specs.Register.{Registers};
 ghost use Rattle.rina_iface.specs.Seen.{unpassed};
 ghost use Rattle.rina_iface.specs.Send.{Sends};
 ghost use Rattle.rina_iface.specs.Unregister.{Unregisters};
-ghost use Rattle.rina_tower.specs.Calls.{AllocatesAtTop, BindsAtTop, BindsWhole, ClaimsAtTop, FreesAtTop, FreesWhole, PassesAtTop, RegistersAtTop, SendsAtTop, SendsWhole, UnregistersAtTop};
+ghost use Rattle.rina_tower.specs.Calls.{AllocatesAtTop, AllocatesWhole, BindsAtTop, BindsWhole, ClaimsAtTop, FreesAtTop, FreesWhole, PassesAtTop, RegistersAtTop, RegistersWhole, SendsAtTop, SendsWhole, UnregistersAtTop, UnregistersWhole};
 ghost use Rattle.rina_tower.specs.MemoryFailure.{has_failed};
 ghost use Rattle.rina_tower.specs.Ranks.{seen_of};
 ghost use Rattle.rina_tower.specs.Refusals.{frees_both, refuses_allocate, refuses_own, refuses_register, refuses_send, refuses_unregister};
@@ -48,7 +48,15 @@ impl Facility for Tower {
 
     ghost frees_both = { frees_both };
 
+    ghost does_register = { RegistersWhole };
+
+    ghost does_unregister = { UnregistersWhole };
+
+    ghost does_allocate = { AllocatesWhole };
+
     ghost does_bind = { BindsWhole };
+
+    ghost does_incoming = { λ t fac node app result t'. ClaimsAtTop fac node app result t t' };
 
     ghost does_send = { SendsWhole };
 

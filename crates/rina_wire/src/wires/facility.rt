@@ -45,7 +45,15 @@ impl Facility for Wires {
 
     ghost frees_both = { λ a. true };
 
+    ghost does_register = { RegistersOn };
+
+    ghost does_unregister = { UnregistersOn };
+
+    ghost does_allocate = { AllocatesOn };
+
     ghost does_bind = { BindsOn };
+
+    ghost does_incoming = { ClaimsOn };
 
     ghost does_send = { SendsOn };
 

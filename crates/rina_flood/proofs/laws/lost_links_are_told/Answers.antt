@@ -1,4 +1,5 @@
-use Rattle.rina_flood.proofs.Told.{quiet_tells, lost_is_gone}
+use Rattle.rina_flood.proofs.Gone.{lost_is_gone}
+use Rattle.rina_flood.proofs.Told.{quiet_tells}
 use Rattle.rina_flood.proofs.laws.lost_links_are_told.Goals as goal
 
 pub returns-clause-quiet : goal.returns-clause-quiet

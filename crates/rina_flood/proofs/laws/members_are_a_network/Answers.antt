@@ -1,4 +1,4 @@
-use Rattle.rina_flood.proofs.Members.{start_run, goes_on_run, loses_run, makes_run, takes_run, offers_run, handles_run}
+use Rattle.rina_flood.proofs.Members.{start_run, goes_on_run, loses_run, makes_run, takes_run, offers_run, handles_run, joins_run, claims_link_run}
 use Rattle.rina_flood.proofs.Claiming.{quiet_claims}
 use Rattle.rina_flood.proofs.Quiet.{quiet_agree}
 use Rattle.rina_flood.proofs.laws.members_are_a_network.Goals as goal
@@ -23,6 +23,12 @@ returns-clause-offers c = offers_run
 
 pub returns-clause-handles : goal.returns-clause-handles
 returns-clause-handles c = handles_run
+
+pub returns-clause-joins : goal.returns-clause-joins
+returns-clause-joins c = joins_run
+
+pub returns-clause-claims_link : goal.returns-clause-claims_link
+returns-clause-claims_link c = claims_link_run
 
 pub returns-clause-quiet : goal.returns-clause-quiet
 returns-clause-quiet c = quiet_agree c.newest_of_all_takes.ensures.greatest

@@ -1,8 +1,0 @@
-use Rattle.rina_flood.proofs.Entries.{entries_are_one, static_rows}
-use Rattle.rina_flood.proofs.laws.a_static_dif_tells_links_and_entries.Goals as goal
-
-pub returns-clause-links : goal.returns-clause-links
-returns-clause-links c = static_rows
-
-pub returns-clause-entries : goal.returns-clause-entries
-returns-clause-entries c = entries_are_one
