@@ -29,6 +29,7 @@ use Rattle.rina_channel.specs.LinkCloud.{LinkCloud}
 use Rattle.rina_channel.specs.Names.{link_config}
 use Rattle.rina_channel.specs.Standing.{IsStanding}
 use Rattle.rina_channel.proofs.Config.{link_is_config}
+use Rattle.rina_channel.proofs.Below.{stays}
 use Rattle.rina_channel.proofs.Frame.{held, link_limits, stands_with}
 use Rattle.rina_channel.proofs.LinkClouds.{leaves_refl, link_covers}
 use Rattle.rina_channel.proofs.Rows.{holds_arrived, holds_passed, holds_told}
@@ -46,19 +47,19 @@ pub pieces_stand : (m : ChannelsSeen) (lines : List Direction) (ps ps' : List Pr
 pieces_stand m lines ps ps' below at end its_ids pdu cause offs ends' lines' st w kind takes a leaves =
     let end_is : end ≡ a.end = ends_same (slice_get m.ends at) end a.end takes.is_conn.end a.place.is_conn.end in
     let names : IsFrom (flipped a.its_ids) pdu = subst (λ (z : Ids). IsFrom (flipped z) pdu) (ids_same (slice_get m.ids at) its_ids a.its_ids takes.is_conn.ids_are a.place.is_conn.ids_are) takes.names in
-    stands_with m lines lines' m.clock ends' ps ps' below below st st.clock (set_length m.ends ends' at _ a.arrived.2) leaves.live (λ near far f. f)
+    stands_with m lines lines' m.clock ends' ps ps' below below st st.clock (set_length m.ends ends' at _ a.arrived.2) leaves.live (stays m.config ps below)
     (holds_arrived (link_config m.config m.manage) m.clock (LinkCloud m.config m.channels ps below) (LinkCloud m.config m.channels ps' below) m.ends m.ids lines (link_limits m.config m.manage st.managed) (held m lines ps below st)
     w.death at pdu cause offs ends' lines' w.here w.alive kind a (ap (λ (z : End). z.state) (sym end_is) ∙ takes.allocated) names (link_covers m.config m.channels m.clock ps ps' below below leaves (after_none m.config below)))
 
 pub acks_stand : (m : ChannelsSeen) (lines : List Direction) (ps : List Process) (below : Seen) (at : ℕ) (end : End) (its_ids : Ids) (pdu : Pdu) (lines' : List Direction) → IsStanding m lines ps below → IsAwaited m ps below pdu → pdu.kind ≡ AnAck → TakesAt m.ends m.ids pdu at end its_ids → ToldAt lines at pdu lines' → IsStanding m lines' ps below
 acks_stand m lines ps below at end its_ids pdu lines' st w kind takes t =
-    stands_with m lines lines' m.clock m.ends ps ps below below st st.clock refl (λ i n port l. l) (λ near far f. f)
+    stands_with m lines lines' m.clock m.ends ps ps below below st st.clock refl (λ i n port l. l) (stays m.config ps below)
     (holds_told (link_config m.config m.manage) m.clock (LinkCloud m.config m.channels ps below) (LinkCloud m.config m.channels ps below) m.ends m.ids lines (link_limits m.config m.manage st.managed) (held m lines ps below st)
     w.death at pdu end its_ids lines' w.here w.alive kind takes.is_conn takes.allocated takes.names t (link_covers m.config m.channels m.clock ps ps below below (leaves_refl ps) (after_none m.config below)))
 
 pub passes_stand : (m : ChannelsSeen) (lines : List Direction) (ps : List Process) (below : Seen) (at : ℕ) (ends' : List End) (lines' : List Direction) → IsStanding m lines ps below → PassedAt (link_config m.config m.manage) m.ends m.ids lines at ends' lines' → IsStanding (record m { ends = ends' }) lines' ps below
 passes_stand m lines ps below at ends' lines' st p =
-    stands_with m lines lines' m.clock ends' ps ps below below st st.clock (set_length m.ends ends' at _ p.ends_are) (λ i n port l. l) (λ near far f. f)
+    stands_with m lines lines' m.clock ends' ps ps below below st st.clock (set_length m.ends ends' at _ p.ends_are) (λ i n port l. l) (stays m.config ps below)
     (holds_passed (link_config m.config m.manage) m.clock (LinkCloud m.config m.channels ps below) (LinkCloud m.config m.channels ps below) m.ends m.ids lines (link_limits m.config m.manage st.managed) (held m lines ps below st)
     at ends' lines' p (link_covers m.config m.channels m.clock ps ps below below (leaves_refl ps) (after_none m.config below)))
 

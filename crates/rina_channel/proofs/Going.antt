@@ -31,12 +31,14 @@ use Rattle.rina_dif_law.proofs.After.{Just, after_sent}
 use Rattle.rina_dif_law.proofs.Clouds.{NoItem}
 use Rattle.rina_dif_law.proofs.Going.{given_dies, head_waits}
 use Rattle.rina_dif_law.proofs.Queues.{requeued_taken}
+use Rattle.rina_channel.specs.declared.channel.Attachment.{Attachment}
 use Rattle.rina_channel.specs.Changes.{LeavesLinks}
 use Rattle.rina_channel.specs.Channels.{ChannelsSeen, HasLive}
 use Rattle.rina_channel.specs.LinkCloud.{LinkCloud}
 use Rattle.rina_channel.specs.Names.{link_config}
 use Rattle.rina_channel.specs.Standing.{IsStanding}
-use Rattle.rina_channel.proofs.Frame.{flow_later, held, link_limits, other_pdus_stand, stands_with}
+use Rattle.rina_channel.proofs.Below.{GoesOn, ends_go_on, just_on, stay_unsent}
+use Rattle.rina_channel.proofs.Frame.{held, link_limits, other_pdus_stand, stands_with}
 use Rattle.rina_channel.proofs.LinkClouds.{link_after}
 use Rattle.rina_channel.proofs.Putting.{live_same}
 use Rattle.rina_channel.proofs.Rows.{holds_covered}
@@ -79,17 +81,20 @@ module _ (refuses : Port → ℕ → Option SendError) (m : ChannelsSeen) (lines
       let waits = head_waits ps i n process s.link s.place s.queue s.item is_process s.head in
       let fit = subst (λ (z : Config). IsItem z m.clock s.item) (sym config) (subst (λ (t : ℕ). IsItem d.config t s.item) (sym clock) (stands.items i n s.item waits)) in
       let settings = subst IsConfig (sym config) stands.config in
+      let live_here : HasLive ps i n s.link.port = live_by ps i n process s.link is_process s.head.is_link in
+      let go : GoesOn g ps below below' = record { ends = ends_go_on below below' later kept'; unsent = stay_unsent g (Just s.link.port x) ps below below' after (just_on ps s.link.port x i n live_here) } in
       let covers : Covers m.clock (LinkCloud g m.channels ps below) (LinkCloud g m.channels ps' below') = λ death pdu there alive.
       elim (link_after g m.channels NoItem (Just s.link.port x) ps ps' below below' (λ k t p. (older : ℕ) × (t ≤ older) × LinkCloud g m.channels ps below older p) death pdu
       (requeued_taken ps i s.place process taken s.queue is_process s.head.is_queue refl) (live_same ps i process taken is_process refl) after
-      (λ k channel t plain is of_link new. elim new [
+      (λ k channel t plain is of_link new. elim (new.made) [
         | inl none ↦ absurd none.1.new
         | inr given ↦
+            let own : Attachment = new.link in
             let dies = given_dies g m.clock below s.link.port s.item s.promise t plain s.num _ settings (sym st.clock) fit s.promised s.in_time given in
-            let port : s.link.port ≡ channel.port = sym given.new.0 ∙ given.within in
-            let here : HasLive ps i n channel.port = subst (HasLive ps i n) port (live_by ps i n process s.link is_process s.head.is_link) in
-            let same = st.channels.matched i n k channel here is in
-            let live : HasLive ps channel.member channel.number channel.port = subst (λ (a : ℕ). HasLive ps a channel.number channel.port) (sym same.0) (subst (λ (a : ℕ). HasLive ps i a channel.port) (sym same.1) here) in
+            let port : s.link.port ≡ own.port = sym given.new.0 ∙ given.within in
+            let here : HasLive ps i n own.port = subst (HasLive ps i n) port live_here in
+            let same = st.channels.matched i n k channel own is new.link_is here in
+            let live : HasLive ps channel.member own.number own.port = subst (λ (a : ℕ). HasLive ps a own.number own.port) (sym same.0) (subst (λ (a : ℕ). HasLive ps i a own.port) (sym same.1) here) in
             let dies_at = dies.0 in (
               t,
               omega arith,
@@ -99,7 +104,7 @@ module _ (refuses : Port → ℕ → Option SendError) (m : ChannelsSeen) (lines
                 stands = is;
                 plain = plain;
                 of_link = of_link;
-                here = inl (live, record { process = i; link = n; within = (sym same.0, sym same.1); item = s.item; waits = waits; dies = dies.0; is = dies.1 });
+                here = record { link = own; link_is = new.link_is; here = inl (live, record { process = i; link = n; within = (sym same.0, sym same.1); item = s.item; waits = waits; dies = dies.0; is = dies.1 }) };
                 is = refl;
               },
             )
@@ -109,7 +114,7 @@ module _ (refuses : Port → ℕ → Option SendError) (m : ChannelsSeen) (lines
       ] in
       let now : below'.now ≡ below.now = ap (λ (z : Seen). z.now) s.sent.1.new_is in
       subst (λ (z : Process). IsStanding m lines (slice_set ps i z) below') (sym s.new_is)
-      (stands_with m lines lines m.clock m.ends ps ps' below below' st (st.clock ∙ sym now) refl (live_same ps i process taken is_process refl) (λ near far f. flow_later g below below' near far later kept' f)
+      (stands_with m lines lines m.clock m.ends ps ps' below below' st (st.clock ∙ sym now) refl (live_same ps i process taken is_process refl) go
       (holds_covered (link_config g m.manage) m.clock (LinkCloud g m.channels ps below) (LinkCloud g m.channels ps' below') m.ends m.ids lines (link_limits g m.manage st.managed) (held m lines ps below st) covers))
 
   written_off_stands : (holds : Link → Queued → ℕ → Type 0) (cause : Cause) (key : Key) (process' : Process) → IsWrittenOff holds cause process below n key process' below' → IsStanding m lines (slice_set d.processes i process') below'

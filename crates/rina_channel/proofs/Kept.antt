@@ -36,6 +36,7 @@ use Rattle.rina_channel.specs.Laws.{IsFront}
 use Rattle.rina_channel.specs.LinkCloud.{LinkCloud}
 use Rattle.rina_channel.specs.Rows.{config_of}
 use Rattle.rina_channel.specs.Standing.{IsStanding}
+use Rattle.rina_channel.proofs.Below.{stays}
 use Rattle.rina_channel.proofs.Frame.{held, link_limits, one_cube, stands_with}
 use Rattle.rina_channel.proofs.LinkClouds.{link_covers}
 use Rattle.rina_channel.proofs.Rows.{holds_ended, holds_forgot}
@@ -127,12 +128,12 @@ messages_are_lawful m lines ps below i k end partner line st is_end is_partner p
 pub forgotten_stands : (m : ChannelsSeen) (lines : List Direction) (ps ps' : List Process) (below : Seen) (k : ℕ) (offs : List Off) (lines' : List Direction) → IsStanding m lines ps below → ForgetsAt (config_of m) m.ends m.ids lines k offs lines' → LeavesLinks ps ps' → IsStanding m lines' ps' below
 forgotten_stands m lines ps ps' below k offs lines' st f leaves =
     subst (λ (ls : List Direction). IsStanding m ls ps' below) (sym f.lines_are)
-    (stands_with m lines _ m.clock m.ends ps ps' below below st st.clock refl leaves.live (λ near far x. x)
+    (stands_with m lines _ m.clock m.ends ps ps' below below st st.clock refl leaves.live (stays m.config ps below)
     (holds_forgot (config_of m) m.clock (LinkCloud m.config m.channels ps below) (LinkCloud m.config m.channels ps' below) m.ends m.ids lines (link_limits m.config m.manage st.managed) (held m lines ps below st) k f.end f.its_ids f.cube f.place.is_conn f.allocated f.place.is_cube f.from f.line f.inbound f.gone (link_covers m.config m.channels m.clock ps ps' below below leaves (after_none m.config below))))
 
 pub ended_stands : (m : ChannelsSeen) (lines : List Direction) (ps ps' : List Process) (below : Seen) (k : ℕ) (state : PortState) (offs : List Off) (ends' : List End) → IsStanding m lines ps below → EndsAt m.ends m.ids lines k state offs ends' → LeavesLinks ps ps' → IsStanding (record m { ends = ends' }) lines ps' below
 ended_stands m lines ps ps' below k state offs ends' st e leaves =
     let end' : End = record e.end { state = state } in
     subst (λ (es : List End). IsStanding (record m { ends = es }) lines ps' below) (sym e.ends_are)
-    (stands_with m lines lines m.clock (slice_set m.ends k end') ps ps' below below st st.clock (length-set m.ends k end') leaves.live (λ near far x. x)
+    (stands_with m lines lines m.clock (slice_set m.ends k end') ps ps' below below st st.clock (length-set m.ends k end') leaves.live (stays m.config ps below)
     (holds_ended (config_of m) m.clock (LinkCloud m.config m.channels ps below) (LinkCloud m.config m.channels ps' below) m.ends m.ids lines (link_limits m.config m.manage st.managed) (held m lines ps below st) k e.end e.its_ids state e.is_conn e.allocated e.moves e.stops (link_covers m.config m.channels m.clock ps ps' below below leaves (after_none m.config below))))

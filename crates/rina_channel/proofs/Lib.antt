@@ -1,6 +1,8 @@
-pub mod Added
 pub mod Arriving
+pub mod Asking
+pub mod Below
 pub mod Calls
+pub mod Claiming
 pub mod Coming
 pub mod Config
 pub mod Dated

@@ -9,7 +9,7 @@ use Rattle.rina_iface.specs.declared.ends.End.{End}
 use Rattle.rina_iface.specs.declared.state.PortState.TheVariants.{Allocated}
 use Rattle.rina_iface.specs.declared.state.Role.TheVariants.{Asker, Far}
 use Rattle.rina_iface.specs.Journal.{At, HasPartner, IsDated, IsNamed, IsPartner, IsWhole}
-use Rattle.rina_iface.specs.Seen.{Seen, end_of}
+use Rattle.rina_iface.specs.Seen.{Seen}
 use Rattle.rina_iface.proofs.Grown.{dated_none, still_at}
 use Rattle.rina_law.specs.Backed.{Covers}
 use Rattle.rina_law.specs.Direction.{Direction}
@@ -22,13 +22,15 @@ use Rattle.rina_dif_law.specs.Places.{Place}
 use Rattle.rina_dif_law.proofs.Own.{end_of_flow, partner_back}
 use Rattle.rina_dif_law.proofs.OwnMade.{IsBlank, own_made}
 use Rattle.rina_rest.specs.Flows.{Endpoint, IsFree}
+use Rattle.rina_channel.specs.declared.channel.Attachment.{Attachment}
 use Rattle.rina_channel.specs.declared.channel.Channel.{Channel}
-use Rattle.rina_channel.specs.Channels.{AreChannels, ChannelsSeen, HasLive, IsFlowBelow}
+use Rattle.rina_channel.specs.Channels.{AreChannels, ChannelsSeen, HasLive, IsFlowBelow, IsJoined, IsOnPort, IsSilent, IsUnclaimed, RunsBetween}
 use Rattle.rina_channel.specs.LinkCloud.{IsOn, LinkCloud}
-use Rattle.rina_channel.specs.Making.{AreMade, IsNewFlow, IsUnused, begun}
+use Rattle.rina_channel.specs.Making.{AreMade, IsNewFlow, IsNewLink, IsUnused, begun}
 use Rattle.rina_channel.specs.Names.{link_config, names_at}
 use Rattle.rina_channel.specs.Rows.{config_of}
 use Rattle.rina_channel.specs.Standing.{IsStanding}
+use Rattle.rina_channel.proofs.Below.{channels_same, flow_back, links_same, no_port, on_link, one_port, two_ports}
 use Rattle.rina_dif_law.proofs.Pairs.{first_at, second_at, two_at, two_long}
 
 -- the cube of management has the id of management
@@ -42,20 +44,8 @@ manage_is g manage id = elim (eqb_tells manage.id 0) [
   | inr f ↦ absurd (f.1 id)
 ]
 
-ends_same : (o : Option End) (a b : End) → o ≡ Some a → o ≡ Some b → a ≡ b
-ends_same o a b h g = cc
-
 ids_same : (o : Option Ids) (a b : Ids) → o ≡ Some a → o ≡ Some b → a ≡ b
 ids_same o a b h g = cc
-
-flow_back : (g : Config) (below : Seen) (near far : Port) → IsFlowBelow g below near far → IsFlowBelow g below far near
-flow_back g below near far f = record { facility = sym f.facility; near_end = f.far_end; is_near = f.is_far; far_end = f.near_end; is_far = f.is_near; partners = partner_back f.near_end f.far_end f.partners; mine = f.its_mine; its_mine = f.mine }
-
--- the two ends of a flow have two ports
-two_ports : (g : Config) (below : Seen) (near far : Port) → IsFlowBelow g below near far → near ≢ far
-two_ports g below near far f same =
-    let is : f.near_end ≡ f.far_end = ends_same (end_of below near) f.near_end f.far_end f.is_near (ap (end_of below) same ∙ f.is_far) in
-    f.partners.other_role (ap (λ (e : End). e.role) (sym is))
 
 module _ (m : ChannelsSeen) (lines : List Direction) (ps : List Process) (below : Seen) (near far : Channel) (asker end : End) (m' : ChannelsSeen) (lines' : List Direction) (st : IsStanding m lines ps below) (n : IsNewFlow m ps below near far) (made : AreMade m lines near far asker end m' lines') where
   abbrev count : ℕ
@@ -113,7 +103,151 @@ module _ (m : ChannelsSeen) (lines : List Direction) (ps : List Process) (below 
   far_named : slice_get ids' (suc count) ≡ Some far_ids
   far_named = subst (λ (k : ℕ). slice_get ids' (suc k) ≡ Some far_ids) st.own.alike (second_at m.ids near_ids far_ids)
 
-  made_channels : AreChannels (record m { channels = channels'; ends = ends'; ids = ids' }) ps below
+  abbrev seen' : ChannelsSeen
+  seen' = record m { channels = channels'; ends = ends'; ids = ids' }
+
+  abbrev own : Attachment
+  own = n.link
+
+  near_on : IsOnPort near own.port
+  near_on = on_link near own n.is_new.link_is
+
+  -- the far channel has no link, or a new one
+  far_cases : (port : Port) → IsOnPort far port → (far_link : Attachment) × IsNewLink m ps below far far_link × IsFlowBelow m.config below own.port far_link.port × (far_link.port ≡ port)
+  far_cases port on = elim (n.other) [
+    | inl both ↦ (both.link, both.is_new, both.flow, one_port far both.link.port port (on_link far both.link both.is_new.link_is) on)
+    | inr alone ↦ absurd (no_port far port on alone.none)
+  ]
+
+  -- no channel that was there has a port of a new one
+  near_other : (k : ℕ) (c : Channel) (port : Port) → slice_get m.channels k ≡ Some c → IsOnPort c port → IsOnPort near port → ⊥
+  near_other k c port h on new = n.is_new.others k c h (subst (IsOnPort c) (one_port near port own.port new near_on) on)
+
+  far_other : (k : ℕ) (c : Channel) (port : Port) → slice_get m.channels k ≡ Some c → IsOnPort c port → IsOnPort far port → ⊥
+  far_other k c port h on new = (let f = far_cases port new in f.1.others k c h (subst (IsOnPort c) (sym f.3) on))
+
+  -- nor have the new ones one port
+  new_apart : (port : Port) → IsOnPort near port → IsOnPort far port → ⊥
+  new_apart port x y = (let f = far_cases port y in two_ports m.config below own.port f.0.port f.2 (one_port near own.port port near_on x ∙ sym f.3))
+
+  -- none that may be claimed by an older one is a port of a new one
+  near_free : (port : Port) → IsUnclaimed m below port → IsOnPort near port → ⊥
+  near_free port u on = n.is_new.free (subst (IsUnclaimed m below) (one_port near port own.port on near_on) u)
+
+  far_free : (port : Port) → IsUnclaimed m below port → IsOnPort far port → ⊥
+  far_free port u on = (let f = far_cases port on in f.1.free (subst (IsUnclaimed m below) (sym f.3) u))
+
+  -- the two are partners, at the two ends of one flow
+  near_partner : slice_get channels' near.partner ≡ Some far
+  near_partner = ap (slice_get channels') made.near_partner ∙ far_stands
+
+  far_partner : slice_get channels' far.partner ≡ Some near
+  far_partner = ap (slice_get channels') made.far_partner ∙ near_stands
+
+  near_flow : (p q : Port) → IsOnPort near p → IsOnPort far q → IsFlowBelow m.config below p q
+  near_flow p q x y =
+      let f = far_cases q y in
+      subst (λ (z : Port). IsFlowBelow m.config below z q) (one_port near own.port p near_on x) (subst (IsFlowBelow m.config below own.port) f.3 f.2)
+
+  near_joined : IsJoined seen' below count near
+  near_joined = record {
+    partner = far;
+    stands = near_partner;
+    back = made.far_partner;
+    flow = near_flow;
+    alone = λ p x none. elim (n.other) [
+      | inl both ↦ absurd (no_port far both.link.port (on_link far both.link both.is_new.link_is) none)
+      | inr alone ↦ subst (RunsBetween m.config below) (one_port near own.port p near_on x) alone.between
+    ];
+  }
+
+  far_joined : IsJoined seen' below (suc count) far
+  far_joined = record {
+    partner = near;
+    stands = far_partner;
+    back = made.near_partner;
+    flow = λ p q x y. flow_back m.config below q p (near_flow q p y x);
+    alone = λ p x none. absurd (no_port near own.port near_on none);
+  }
+
+  old_joined : (k : ℕ) (c : Channel) → slice_get m.channels k ≡ Some c → IsJoined seen' below k c
+  old_joined k c h = (let j = st.channels.joined k c h in record { partner = j.partner; stands = still_at m.channels (near ∷ far ∷ []) c.partner j.partner j.stands; back = j.back; flow = j.flow; alone = j.alone })
+
+  -- ---- what may be claimed is silent
+
+  silent_still : (port : Port) → IsSilent m ps below port → (IsOnPort near port → ⊥) → (IsOnPort far port → ⊥) → IsSilent seen' ps below port
+  silent_still port s near_off far_off = record {
+    no_channel = λ k c h on. elim (channel_cases k c h) [
+      | inl o ↦ s.no_channel k c o on
+      | inr (inl t) ↦ near_off (subst (λ (z : Channel). IsOnPort z port) t.1 on)
+      | inr (inr t) ↦ far_off (subst (λ (z : Channel). IsOnPort z port) t.1 on)
+    ];
+    no_link = s.no_link;
+    unsent = s.unsent;
+  }
+
+  old_silent : (port : Port) (u : IsUnclaimed seen' below port) → slice_get m.channels u.place ≡ Some u.channel → IsSilent seen' ps below port
+  old_silent port u was =
+      let j = st.channels.joined u.place u.channel was in
+      let same : j.partner ≡ u.partner = channels_same (slice_get channels' u.channel.partner) j.partner u.partner (still_at m.channels (near ∷ far ∷ []) u.channel.partner j.partner j.stands) u.is_partner in
+      let before : IsUnclaimed m below port = record { place = u.place; channel = u.channel; stands = was; near = u.near; on_port = u.on_port; partner = j.partner; is_partner = j.stands; none = ap (λ (c : Channel). c.link) same ∙ u.none; flow = u.flow } in
+      silent_still port (st.channels.unclaimed port before) (near_free port before) (far_free port before)
+
+  -- its partner is the far one, which has none
+  near_silent : (port : Port) (u : IsUnclaimed seen' below port) → u.channel ≡ near → IsSilent seen' ps below port
+  near_silent port u same =
+      let far_is : u.partner ≡ far = channels_same (slice_get channels' u.channel.partner) u.partner far u.is_partner (ap (λ (c : Channel). slice_get channels' c.partner) same ∙ near_partner) in
+      let none : far.link ≡ None = ap (λ (c : Channel). c.link) (sym far_is) ∙ u.none in
+      let at : u.near ≡ own.port = one_port near u.near own.port (subst (λ (c : Channel). IsOnPort c u.near) same u.on_port) near_on in
+      let flow : IsFlowBelow m.config below own.port port = subst (λ (p : Port). IsFlowBelow m.config below p port) at u.flow in
+      elim (n.other) [
+        | inl both ↦ absurd (no_port far both.link.port (on_link far both.link both.is_new.link_is) none)
+        | inr alone ↦ silent_still port (alone.silent port flow) (λ on. two_ports m.config below own.port port flow (one_port near own.port port near_on on)) (λ on. no_port far port on none)
+      ]
+
+  far_silent : (port : Port) (u : IsUnclaimed seen' below port) → u.channel ≡ far → ⊥
+  far_silent port u same =
+      let near_is : u.partner ≡ near = channels_same (slice_get channels' u.channel.partner) u.partner near u.is_partner (ap (λ (c : Channel). slice_get channels' c.partner) same ∙ far_partner) in
+      no_port near own.port near_on (ap (λ (c : Channel). c.link) (sym near_is) ∙ u.none)
+
+  made_apart : (j k : ℕ) (a b : Channel) (port : Port) → slice_get channels' j ≡ Some a → slice_get channels' k ≡ Some b → IsOnPort a port → IsOnPort b port → j ≡ k
+  made_apart j k a b port x y p q = elim (channel_cases j a x) [
+    | inl o ↦ elim (channel_cases k b y) [
+      | inl w ↦ st.channels.apart j k a b port o w p q
+      | inr (inl t) ↦ absurd (near_other j a port o p (subst (λ (z : Channel). IsOnPort z port) t.1 q))
+      | inr (inr t) ↦ absurd (far_other j a port o p (subst (λ (z : Channel). IsOnPort z port) t.1 q))
+    ]
+    | inr (inl s) ↦ elim (channel_cases k b y) [
+      | inl w ↦ absurd (near_other k b port w q (subst (λ (z : Channel). IsOnPort z port) s.1 p))
+      | inr (inl t) ↦ s.0 ∙ sym t.0
+      | inr (inr t) ↦ absurd (new_apart port (subst (λ (z : Channel). IsOnPort z port) s.1 p) (subst (λ (z : Channel). IsOnPort z port) t.1 q))
+    ]
+    | inr (inr s) ↦ elim (channel_cases k b y) [
+      | inl w ↦ absurd (far_other k b port w q (subst (λ (z : Channel). IsOnPort z port) s.1 p))
+      | inr (inl t) ↦ absurd (new_apart port (subst (λ (z : Channel). IsOnPort z port) t.1 q) (subst (λ (z : Channel). IsOnPort z port) s.1 p))
+      | inr (inr t) ↦ s.0 ∙ sym t.0
+    ]
+  ]
+
+  -- the live link of a port is the new link with that port
+  own_link : (c : Channel) (its new : Attachment) (i o : ℕ) → IsNewLink m ps below c new → c.link ≡ Some its → HasLive ps i o its.port → (c.member ≡ i) × (its.number ≡ o)
+  own_link c its new i o is_new link_is live =
+      let same : its ≡ new = links_same c.link its new link_is is_new.link_is in
+      let its_own = is_new.own i o (subst (λ (z : Attachment). HasLive ps i o z.port) same live) in
+      (its_own.0, ap (λ (z : Attachment). z.number) same ∙ its_own.1)
+
+  made_matched : (i o k : ℕ) (c : Channel) (link : Attachment) → slice_get channels' k ≡ Some c → c.link ≡ Some link → HasLive ps i o link.port → (c.member ≡ i) × (link.number ≡ o)
+  made_matched i o k c link h link_is live = elim (channel_cases k c h) [
+    | inl old ↦ st.channels.matched i o k c link old link_is live
+    | inr (inl t) ↦ (let is = own_link near link own i o n.is_new (ap (λ (z : Channel). z.link) (sym t.1) ∙ link_is) live in (ap (λ (z : Channel). z.member) t.1 ∙ is.0, is.1))
+    | inr (inr t) ↦
+        let far_is : far.link ≡ Some link = ap (λ (z : Channel). z.link) (sym t.1) ∙ link_is in
+        let f = far_cases link.port (on_link far link far_is) in
+        let is = own_link far link f.0 i o f.1 far_is live in
+        (ap (λ (z : Channel). z.member) t.1 ∙ is.0, is.1)
+  ]
+
+  made_channels : AreChannels seen' ps below
   made_channels = record {
     alike = two_long m.channels m.ends near far asker end st.channels.alike;
     names = λ k c h. elim (channel_cases k c h) [
@@ -122,46 +256,18 @@ module _ (m : ChannelsSeen) (lines : List Direction) (ps : List Process) (below 
       | inr (inr t) ↦ ap (slice_get ids') t.0 ∙ far_named ∙ ap (λ (p : ℕ). Some (names_at (suc count) p)) (sym made.far_partner) ∙ ap (λ (z : Channel). Some (names_at (suc count) z.partner)) (sym t.1) ∙ ap (λ (i : ℕ). Some (names_at i c.partner)) (sym t.0)
     ];
     joined = λ k c h. elim (channel_cases k c h) [
-      | inl o ↦ (let j = st.channels.joined k c o in record { partner = j.partner; stands = still_at m.channels (near ∷ far ∷ []) c.partner j.partner j.stands; back = j.back; flow = j.flow })
-      | inr (inl t) ↦ record {
-        partner = far;
-        stands = ap (λ (z : Channel). slice_get channels' z.partner) t.1 ∙ ap (slice_get channels') made.near_partner ∙ far_stands;
-        back = made.far_partner ∙ sym t.0;
-        flow = subst (λ (z : Channel). IsFlowBelow m.config below z.port far.port) (sym t.1) n.flow;
-      }
-      | inr (inr t) ↦ record {
-        partner = near;
-        stands = ap (λ (z : Channel). slice_get channels' z.partner) t.1 ∙ ap (slice_get channels') made.far_partner ∙ near_stands;
-        back = made.near_partner ∙ sym t.0;
-        flow = subst (λ (z : Channel). IsFlowBelow m.config below z.port near.port) (sym t.1) (flow_back m.config below near.port far.port n.flow);
-      }
+      | inl o ↦ old_joined k c o
+      | inr (inl t) ↦ subst (λ (z : Channel). IsJoined seen' below k z) (sym t.1) (subst (λ (i : ℕ). IsJoined seen' below i near) (sym t.0) near_joined)
+      | inr (inr t) ↦ subst (λ (z : Channel). IsJoined seen' below k z) (sym t.1) (subst (λ (i : ℕ). IsJoined seen' below i far) (sym t.0) far_joined)
     ];
-    apart = λ j k a b x y port. elim (channel_cases j a x) [
-      | inl o ↦ elim (channel_cases k b y) [
-        | inl q ↦ st.channels.apart j k a b o q port
-        | inr (inl t) ↦ absurd ((n.others j a o).0 (port ∙ ap (λ (z : Channel). z.port) t.1))
-        | inr (inr t) ↦ absurd ((n.others j a o).1 (port ∙ ap (λ (z : Channel). z.port) t.1))
-      ]
-      | inr (inl s) ↦ elim (channel_cases k b y) [
-        | inl q ↦ absurd ((n.others k b q).0 (sym port ∙ ap (λ (z : Channel). z.port) s.1))
-        | inr (inl t) ↦ s.0 ∙ sym t.0
-        | inr (inr t) ↦ absurd (two_ports m.config below near.port far.port n.flow (ap (λ (z : Channel). z.port) (sym s.1) ∙ port ∙ ap (λ (z : Channel). z.port) t.1))
-      ]
-      | inr (inr s) ↦ elim (channel_cases k b y) [
-        | inl q ↦ absurd ((n.others k b q).1 (sym port ∙ ap (λ (z : Channel). z.port) s.1))
-        | inr (inl t) ↦ absurd (two_ports m.config below near.port far.port n.flow (sym (ap (λ (z : Channel). z.port) (sym s.1) ∙ port ∙ ap (λ (z : Channel). z.port) t.1)))
-        | inr (inr t) ↦ s.0 ∙ sym t.0
-      ]
-    ];
+    apart = made_apart;
     numbered = st.channels.numbered;
-    matched = λ i o k c live h. elim (channel_cases k c h) [
-      | inl old ↦ st.channels.matched i o k c live old
-      | inr (inl t) ↦
-          let is = n.near_link i o (subst (λ (z : Channel). HasLive ps i o z.port) t.1 live) in
-          (ap (λ (z : Channel). z.member) t.1 ∙ is.0, ap (λ (z : Channel). z.number) t.1 ∙ is.1)
-      | inr (inr t) ↦
-          let is = n.far_link i o (subst (λ (z : Channel). HasLive ps i o z.port) t.1 live) in
-          (ap (λ (z : Channel). z.member) t.1 ∙ is.0, ap (λ (z : Channel). z.number) t.1 ∙ is.1)
+    based = st.channels.based;
+    matched = made_matched;
+    unclaimed = λ port u. elim (channel_cases u.place u.channel u.stands) [
+      | inl o ↦ old_silent port u o
+      | inr (inl t) ↦ near_silent port u t.1
+      | inr (inr t) ↦ absurd (far_silent port u t.1)
     ];
   }
 
@@ -171,8 +277,11 @@ module _ (m : ChannelsSeen) (lines : List Direction) (ps : List Process) (below 
   none_new : (death : ℕ) (pdu : Pdu) (x : LinkCloud m.config channels' ps below death pdu) → slice_get m.channels x.place ≡ Some x.channel
   none_new death pdu x = elim (channel_cases x.place x.channel x.stands) [
     | inl o ↦ o
-    | inr (inl t) ↦ absurd (n.near_silent death x.plain x.of_link (subst (λ (c : Channel). IsOn m.config ps below c death x.plain) t.1 x.here))
-    | inr (inr t) ↦ absurd (n.far_silent death x.plain x.of_link (subst (λ (c : Channel). IsOn m.config ps below c death x.plain) t.1 x.here))
+    | inr (inl t) ↦ absurd (n.is_new.silent death x.plain x.of_link (subst (λ (c : Channel). IsOn m.config ps below c death x.plain) t.1 x.here))
+    | inr (inr t) ↦
+        let here : IsOn m.config ps below far death x.plain = subst (λ (c : Channel). IsOn m.config ps below c death x.plain) t.1 x.here in
+        let f = far_cases here.link.port (on_link far here.link here.link_is) in
+        absurd (f.1.silent death x.plain x.of_link here)
   ]
 
   made_covers : Covers m.clock cloud cloud'

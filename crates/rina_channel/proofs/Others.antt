@@ -41,7 +41,7 @@ module _ (m : ChannelsSeen) (lines : List Direction) (ps : List Process) (o : Di
   ins_other i n (Err Memory) o' olines' s = same_below s.2
   ins_other i n (Err NoIpc) o' olines' s = same_below s.3
   ins_other i n (Err NoLink) o' olines' s = same_below s.3
-  ins_other i n (Err (CountSpent need left)) o' olines' s = absurd s
+  ins_other i n (Err (CountSpent need left)) o' olines' s = same_below s.2
 
   module _ (refuses : Port → ℕ → Option SendError) (others : DifStands o olines below) (apart : AreOthers m o) where
     forwarded_other : (i n : ℕ) (process : Process) (key : Key) (process' : Process) → slice_get o.processes i ≡ Some process → IsForwarded refuses o.config o.clock process below n key process' below' → IsStanding m lines ps below'

@@ -24,6 +24,7 @@ use Rattle.rina_dif_law.specs.Sending.{offered_pieces}
 use Rattle.rina_dif_law.proofs.After.{NoMore, after_none}
 use Rattle.rina_dif_law.proofs.Queues.{JustItems, requeued_put, requeued_same}
 use Rattle.rina_flows.specs.Laws.{waiting_now}
+use Rattle.rina_channel.specs.declared.channel.Attachment.{Attachment}
 use Rattle.rina_channel.specs.declared.channel.Channel.{Channel}
 use Rattle.rina_channel.specs.Changes.{IsFullOn, IsPutOn, LeavesLinks, PostsOn}
 use Rattle.rina_channel.specs.Channels.{AreChannels, ChannelsSeen, HasLive}
@@ -31,12 +32,10 @@ use Rattle.rina_channel.specs.LinkCloud.{LinkCloud}
 use Rattle.rina_channel.specs.Names.{named, names_at, unnamed}
 use Rattle.rina_channel.specs.Rows.{IsAcknowledgedOn, IsOfferedOn, IsResentOn, config_of}
 use Rattle.rina_channel.specs.Standing.{IsStanding}
+use Rattle.rina_channel.proofs.Below.{channels_same, on_link, stays}
 use Rattle.rina_channel.proofs.Frame.{held, link_limits, stands_with}
 use Rattle.rina_channel.proofs.LinkClouds.{LiveBefore, link_after, link_covers}
 use Rattle.rina_channel.proofs.Rows.{holds_acknowledged, holds_again, holds_offered, in_map}
-
-channels_same : (o : Option Channel) (a b : Channel) → o ≡ Some a → o ≡ Some b → a ≡ b
-channels_same o a b h g = cc
 
 ids_same : (o : Option Ids) (a b : Ids) → o ≡ Some a → o ≡ Some b → a ≡ b
 ids_same o a b h g = cc
@@ -75,18 +74,20 @@ module _ (m : ChannelsSeen) (ps ps' : List Process) (below : Seen) (a : AreChann
   pub put_covers : (cap now life : ℕ) (items : List Queued) (made : Pdu → Type 0) → IsPutOn cap ps channel items ps' → ((item : Queued) → In item items → made (named k channel.partner item.pdu) × (item.since + item.left ≤ life)) → CoversBut now (LinkCloud m.config m.channels ps below) made life (LinkCloud m.config m.channels ps' below)
   put_covers cap now life items made p all death pdu x alive =
       let put : Process = with_put p.process p.place p.queue items in
-      let of : p.queue.link ≡ channel.number = queue_link p.process 0 channel.number p.place p.queue p.is_of.is_queue in
+      let own : Attachment = p.is_of.live.link in
+      let of : p.queue.link ≡ own.number = queue_link p.process 0 own.number p.place p.queue p.is_of.is_queue in
       let x' = subst (λ (z : List Process). LinkCloud m.config m.channels z below death pdu) p.new_is x in
       elim (link_after m.config m.channels (JustItems channel.member p.queue.link items) NoMore ps (slice_set ps channel.member put) below below (λ j d z. made z × (d ≤ life)) death pdu
       (requeued_put ps channel.member p.place p.process p.queue items p.is_of.is_process p.is_of.is_queue.is_queue)
       (live_same ps channel.member p.process put p.is_of.is_process refl) (after_none m.config below)
-      (λ j its d plain its_stands of_link new. elim new [
+      (λ j its d plain its_stands of_link new. elim (new.made) [
         | inl put' ↦
+            let link : Attachment = new.link in
             let member : its.member ≡ channel.member = sym put'.1.within.0 ∙ put'.1.new.0 in
-            let number : its.number ≡ channel.number = sym put'.1.within.1 ∙ put'.1.new.1 ∙ of in
-            let there : HasLive ps channel.member channel.number its.port = subst (λ (n : ℕ). HasLive ps channel.member n its.port) number (subst (λ (i : ℕ). HasLive ps i its.number its.port) member put'.0) in
-            let port = a.numbered channel.member channel.number its.port channel.port there p.is_of.live in
-            let same : j ≡ k = a.apart j k its channel its_stands stands port in
+            let number : link.number ≡ own.number = sym put'.1.within.1 ∙ put'.1.new.1 ∙ of in
+            let there : HasLive ps channel.member own.number link.port = subst (λ (n : ℕ). HasLive ps channel.member n link.port) number (subst (λ (i : ℕ). HasLive ps i link.number link.port) member put'.0) in
+            let port : link.port ≡ own.port = a.numbered channel.member own.number link.port own.port there p.is_of.live.live in
+            let same : j ≡ k = a.apart j k its channel own.port its_stands stands (record { link = link; link_is = new.link_is; port_is = port }) (on_link channel own p.is_of.live.link_is) in
             let its_is : its ≡ channel = channels_same (slice_get m.channels k) its channel (subst (λ (n : ℕ). slice_get m.channels n ≡ Some its) same its_stands) stands in
             let told = all put'.1.item put'.1.new.2 in
             let le = told.1 in
@@ -148,7 +149,7 @@ offered_stands m lines ps below k parts num m' lines' ps' st s =
     (subst (λ (z : Pdu). In z s.pdus) (sym is) u.1, omega arith)) in
     subst (λ (z : ChannelsSeen). IsStanding z lines' ps' below) (sym s.new_is)
     (stands_with m lines lines' m.clock s.ends' ps ps' below below st st.clock (set_length m.ends s.ends' k _ o.offered.3)
-    (put_live m ps ps' below st.channels k s.channel s.stands m.config.cap (waiting_now o.cube.mpl m.clock (map unnamed s.pdus)) s.put) (λ near far f. f)
+    (put_live m ps ps' below st.channels k s.channel s.stands m.config.cap (waiting_now o.cube.mpl m.clock (map unnamed s.pdus)) s.put) (stays m.config ps below)
     (holds_offered (config_of m) m.clock (LinkCloud m.config m.channels ps below) (LinkCloud m.config m.channels ps' below) m.ends m.ids lines (link_limits m.config m.manage st.managed) (held m lines ps below st) k parts num s.pdus s.ends' lines' o s.allocated s.cut covers))
 
 -- ---- a piece is sent again
@@ -160,7 +161,7 @@ resent_stands m lines ps below k cause lines' ps' st s =
     let pdu : Pdu = pdu_of_piece s.ids (piece_again s.number s.line.line.sender) in
     let covers = posts_cover m ps ps' below st.channels k s.channel e.stands m.config.cap m.clock s.cube.mpl (unnamed pdu) cause (λ p. p ≡ pdu) s.posted (named_piece k s.channel.partner s.ids (piece_again s.number s.line.line.sender) names) in
     subst (λ (ls : List Direction). IsStanding m ls ps' below) (sym s.lines_are)
-    (stands_with m lines _ m.clock m.ends ps ps' below below st st.clock refl (posts_live m ps ps' below st.channels k s.channel e.stands m.config.cap m.clock s.cube.mpl (unnamed pdu) cause s.posted) (λ near far f. f)
+    (stands_with m lines _ m.clock m.ends ps ps' below below st st.clock refl (posts_live m ps ps' below st.channels k s.channel e.stands m.config.cap m.clock s.cube.mpl (unnamed pdu) cause s.posted) (stays m.config ps below)
     (holds_again (config_of m) m.clock (LinkCloud m.config m.channels ps below) (LinkCloud m.config m.channels ps' below) m.ends m.ids lines (link_limits m.config m.manage st.managed) (held m lines ps below st) k s.number s.end s.ids s.cube s.line e.is_conn e.allocated e.is_cube s.is_line s.due covers))
 
 -- ---- an acknowledgement is made
@@ -173,5 +174,5 @@ acknowledged_stands m lines ps below k cause lines' ps' st s =
     let pdu : Pdu = pdu_of_ack s.ids ack in
     let covers = posts_cover m ps ps' below st.channels k s.channel e.stands m.config.cap m.clock s.cube.mpl (unnamed pdu) cause (λ p. p ≡ pdu) s.posted (named_ack k s.channel.partner s.ids ack names) in
     subst (λ (ls : List Direction). IsStanding m ls ps' below) (sym s.lines_are)
-    (stands_with m lines _ m.clock m.ends ps ps' below below st st.clock refl (posts_live m ps ps' below st.channels k s.channel e.stands m.config.cap m.clock s.cube.mpl (unnamed pdu) cause s.posted) (λ near far f. f)
+    (stands_with m lines _ m.clock m.ends ps ps' below below st st.clock refl (posts_live m ps ps' below st.channels k s.channel e.stands m.config.cap m.clock s.cube.mpl (unnamed pdu) cause s.posted) (stays m.config ps below)
     (holds_acknowledged (config_of m) m.clock (LinkCloud m.config m.channels ps below) (LinkCloud m.config m.channels ps' below) m.ends m.ids lines (link_limits m.config m.manage st.managed) (held m lines ps below st) k s.end s.ids s.cube e.is_conn e.allocated e.is_cube s.from s.line s.inbound s.due covers))

@@ -57,13 +57,13 @@ module _ (m : ChannelsSeen) (lines : List Direction) (ps ps' : List Process) (be
   piece_stands : (cause : Option Cause) (dropped : List Off) → TakesPiece m lines port hop.pdu cause dropped m' lines' → IsStanding m' lines' ps' below
   piece_stands cause dropped s =
       let t = s.taker in
-      let awaited = coming_is_awaited m lines ps below s.place s.channel entry hop kept st t.stands (ap (unpassed below) t.port_is ∙ oldest) opens of in_time in
+      let awaited = coming_is_awaited m lines ps below s.place s.channel port entry hop kept st t.stands t.on_port oldest opens of in_time in
       subst (λ (z : ChannelsSeen). IsStanding z lines' ps' below) (sym s.new_is) (pieces_stand m lines ps ps' below s.place s.end s.ids (named s.channel.partner s.place hop.pdu) cause s.held s.ends' lines' st awaited s.piece t.takes s.arrives leaves)
 
   ack_stands : TakesAck m lines port hop.pdu m' lines' → IsStanding m' lines' ps' below
   ack_stands s =
       let t = s.taker in
-      let awaited = coming_is_awaited m lines ps below s.place s.channel entry hop kept st t.stands (ap (unpassed below) t.port_is ∙ oldest) opens of in_time in
+      let awaited = coming_is_awaited m lines ps below s.place s.channel port entry hop kept st t.stands t.on_port oldest opens of in_time in
       let told = acks_stand m lines ps below s.place s.end s.ids (named s.channel.partner s.place hop.pdu) lines' st awaited s.ack t.takes s.told in
       subst (λ (z : ChannelsSeen). IsStanding z lines' ps' below) (sym s.new_is) (other_pdus_stand m lines' ps ps' below told leaves)
 

@@ -23,7 +23,7 @@ pub record LeavesLinks (old new : List Process) : Type 0 where
 pub record IsQueueOf (processes : List Process) (channel : Channel) (process : Process) (place : ℕ) (queue : Queue) : Type 0 where
   pub live : IsLive processes channel
   pub is_process : slice_get processes channel.member ≡ Some process
-  pub is_queue : IsQueue process 0 channel.number place queue
+  pub is_queue : IsQueue process 0 live.link.number place queue
 
 -- PDUs stand at its end, and nothing else changes
 pub record IsPutOn (cap : ℕ) (old : List Process) (channel : Channel) (items : List Queued) (new : List Process) : Type 0 where

@@ -22,7 +22,7 @@ use Rattle.rina_dif_law.specs.OnLinks.{IsLinkLine}
 use Rattle.rina_flows.specs.Rows.{ArrivesAt, TakesAt, ToldAt}
 use Rattle.rina_channel.specs.declared.channel.Channel.{Channel}
 use Rattle.rina_channel.specs.Changes.{LeavesLinks}
-use Rattle.rina_channel.specs.Channels.{ChannelsSeen}
+use Rattle.rina_channel.specs.Channels.{ChannelsSeen, IsOnPort}
 use Rattle.rina_channel.specs.Ledgers.{unnamed_line}
 use Rattle.rina_channel.specs.Names.{named}
 use Rattle.rina_channel.specs.Rows.{config_of}
@@ -31,7 +31,7 @@ use Rattle.rina_channel.specs.Standing.{IsStanding}
 -- the channel at a place is that of the link with this port, and its allocated end takes the PDU
 pub record IsTaker (m : ChannelsSeen) (port : Port) (pdu : Pdu) (k : ℕ) (channel : Channel) (end : End) (ids : Ids) : Type 0 where
   pub stands : slice_get m.channels k ≡ Some channel
-  pub port_is : channel.port ≡ port
+  pub on_port : IsOnPort channel port
   pub takes : TakesAt m.ends m.ids (named channel.partner k pdu) k end ids
 
 -- a piece arrives there, as at each connection; `dropped` are the lines of what the connection held and gives up

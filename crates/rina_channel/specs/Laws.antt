@@ -36,7 +36,7 @@ use Rattle.rina_flows.specs.Ending.{EndsAt, ForgetsAt}
 use Rattle.rina_flows.specs.Rows.{ArrivesAt, PassedAt, TakesAt, ToldAt}
 use Rattle.rina_channel.specs.declared.channel.Channel.{Channel}
 use Rattle.rina_channel.specs.Changes.{IsAwaited, LeavesLinks}
-use Rattle.rina_channel.specs.Channels.{ChannelsSeen}
+use Rattle.rina_channel.specs.Channels.{ChannelsSeen, IsOnPort}
 use Rattle.rina_channel.specs.LinkCloud.{LinkCloud}
 use Rattle.rina_channel.specs.Names.{link_config, named, names_at}
 use Rattle.rina_channel.specs.Rows.{IsAcknowledgedOn, IsOfferedOn, IsResentOn, config_of}
@@ -86,13 +86,13 @@ OtherPdusStand = (m : ChannelsSeen) (lines : List Direction) (processes processe
 
 -- what came in time, and is of a link, is awaited by the channel of that link
 abbrev pub ComingIsAwaited : Type 0
-ComingIsAwaited = (m : ChannelsSeen) (lines : List Direction) (processes : List Process) (below : Seen) (k : ℕ) (channel : Channel) (entry : Entry) (hop : Hop) →
-    AreKept below → IsStanding m lines processes below → slice_get m.channels k ≡ Some channel → unpassed below channel.port ≡ Some entry → opened m.config.widths entry.bytes ≡ Some hop → IsOfLink hop.pdu → m.clock - entry.tick ≤ hop.left → IsAwaited m processes below (named channel.partner k hop.pdu)
+ComingIsAwaited = (m : ChannelsSeen) (lines : List Direction) (processes : List Process) (below : Seen) (k : ℕ) (channel : Channel) (port : Port) (entry : Entry) (hop : Hop) →
+    AreKept below → IsStanding m lines processes below → slice_get m.channels k ≡ Some channel → IsOnPort channel port → unpassed below port ≡ Some entry → opened m.config.widths entry.bytes ≡ Some hop → IsOfLink hop.pdu → m.clock - entry.tick ≤ hop.left → IsAwaited m processes below (named channel.partner k hop.pdu)
 
 -- and each copy of a PDU of a link that came, taken or not, is covered by what its partner sent
 abbrev pub ComingIsCovered : Type 0
-ComingIsCovered = (m : ChannelsSeen) (lines : List Direction) (processes : List Process) (below : Seen) (k : ℕ) (channel : Channel) (end : End) (i : ℕ) (entry : Entry) (hop : Hop) →
-    AreKept below → IsStanding m lines processes below → slice_get m.channels k ≡ Some channel → end_of below channel.port ≡ Some end → slice_get end.got i ≡ Some entry → opened m.config.widths entry.bytes ≡ Some hop → IsOfLink hop.pdu →
+ComingIsCovered = (m : ChannelsSeen) (lines : List Direction) (processes : List Process) (below : Seen) (k : ℕ) (channel : Channel) (port : Port) (end : End) (i : ℕ) (entry : Entry) (hop : Hop) →
+    AreKept below → IsStanding m lines processes below → slice_get m.channels k ≡ Some channel → IsOnPort channel port → end_of below port ≡ Some end → slice_get end.got i ≡ Some entry → opened m.config.widths entry.bytes ≡ Some hop → IsOfLink hop.pdu →
     (older : ℕ) × (entry.tick + hop.left ≤ older) × LinkCloud m.config m.channels processes below older (named channel.partner k hop.pdu)
 
 -- a piece of it arrives at an end

@@ -1,4 +1,3 @@
-pub mod Adding
 pub mod CallLaws
 pub mod Changes
 pub mod Channels

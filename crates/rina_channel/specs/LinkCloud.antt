@@ -6,17 +6,20 @@ use Rattle.rina_data.specs.Configs.{Config}
 use Rattle.rina_data.specs.Process.{Process}
 use Rattle.rina_dif_law.specs.Cloud.{IsOnWay, IsQueued, OneLink, Scope}
 use Rattle.rina_dif_law.specs.Ids.{IsOfLink}
+use Rattle.rina_channel.specs.declared.channel.Attachment.{Attachment}
 use Rattle.rina_channel.specs.declared.channel.Channel.{Channel}
-use Rattle.rina_channel.specs.Channels.{IsLive}
+use Rattle.rina_channel.specs.Channels.{HasLive}
 use Rattle.rina_channel.specs.Names.{named}
 
 -- the link of a channel
-abbrev pub scope_of : Channel → Scope
-scope_of c = OneLink c.member c.number c.port
+abbrev pub scope_of : Channel → Attachment → Scope
+scope_of c link = OneLink c.member link.number link.port
 
--- a PDU waits for the link, while that is live, or was sent on it
-abbrev pub IsOn : Config → List Process → Seen → Channel → ℕ → Pdu → Type 0
-IsOn g processes below channel death pdu = (IsLive processes channel × IsQueued (scope_of channel) processes death pdu) ⊎ IsOnWay (scope_of channel) g below death pdu
+-- a PDU waits for the link of a channel, while that is live, or was sent on it. On a channel with no link there is none
+pub record IsOn (g : Config) (processes : List Process) (below : Seen) (channel : Channel) (death : ℕ) (pdu : Pdu) : Type 0 where
+  pub link : Attachment
+  pub link_is : channel.link ≡ Some link
+  pub here : (HasLive processes channel.member link.number link.port × IsQueued (scope_of channel link) processes death pdu) ⊎ IsOnWay (scope_of channel link) g below death pdu
 
 -- the PDU is one that the end at a place sent to its partner: on their link stands the same without the names
 pub record LinkCloud (g : Config) (channels : List Channel) (processes : List Process) (below : Seen) (death : ℕ) (pdu : Pdu) : Type 0 where

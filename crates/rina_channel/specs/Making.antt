@@ -1,22 +1,24 @@
--- How a DIF gets management connections: before its first link, with a flow below between two members, and as an IPC process
--- takes such a flow as its link.
-use Rattle.std.specs.Prelude.{◌≡◌, ◌≢◌, ℕ, suc, ◌^◌, ◌<◌, ◌⊎◌, List, [], ◌∷◌, ◌++◌, length, slice_get, slice_set, Some}
+-- How a DIF gets management connections: before its first link, with a flow below between two members, as the other end of
+-- such a flow is claimed, and as an IPC process takes its end as its link.
+use Rattle.std.specs.Prelude.{◌≡◌, ◌≢◌, ℕ, suc, ◌^◌, ◌<◌, ◌⊎◌, List, [], ◌∷◌, ◌++◌, length, slice_get, slice_set, Some, None}
 use Rattle.rina_base.specs.declared.number.Port.{Port}
 use Rattle.rina_base.specs.declared.pdu.Pdu.{Pdu}
 use Rattle.rina_iface.specs.declared.ends.End.{End}
 use Rattle.rina_iface.specs.declared.state.PortState.TheVariants.{Allocated}
 use Rattle.rina_iface.specs.declared.state.Role.TheVariants.{Asker, Far}
-use Rattle.rina_iface.specs.Journal.{At, IsNamed}
-use Rattle.rina_iface.specs.Seen.{Seen}
+use Rattle.rina_iface.specs.Journal.{AreKept, At, IsNamed}
+use Rattle.rina_iface.specs.Seen.{Seen, end_of}
 use Rattle.rina_law.specs.Direction.{Direction, start}
 use Rattle.rina_queue.specs.declared.queue.Queued.{Queued}
+use Rattle.rina_data.specs.Configs.{Config}
 use Rattle.rina_data.specs.Process.{Process}
-use Rattle.rina_dif_law.specs.Cloud.{Waits}
+use Rattle.rina_dif_law.specs.Cloud.{IsMine, Waits}
 use Rattle.rina_dif_law.specs.Dif.{constants}
 use Rattle.rina_dif_law.specs.Ids.{IsOfLink}
-use Rattle.rina_dif_law.specs.Lifting.{ticked}
+use Rattle.rina_dif_law.specs.Lifting.{IsLifted, ticked}
+use Rattle.rina_channel.specs.declared.channel.Attachment.{Attachment}
 use Rattle.rina_channel.specs.declared.channel.Channel.{Channel}
-use Rattle.rina_channel.specs.Channels.{ChannelsSeen, HasLive, IsFlowBelow}
+use Rattle.rina_channel.specs.Channels.{ChannelsSeen, HasLive, IsFlowBelow, IsOnPort, IsSilent, IsUnclaimed, RunsBetween}
 use Rattle.rina_channel.specs.LinkCloud.{IsOn}
 use Rattle.rina_channel.specs.Names.{names_at}
 use Rattle.rina_channel.specs.Rows.{config_of}
@@ -24,7 +26,7 @@ use Rattle.rina_channel.specs.Standing.{IsManaged, IsStanding}
 
 -- Before the first link
 
--- there are no ends yet, and live links of one number have one port
+-- there are no ends yet, and live links of one number have one port, which an end below has
 pub record HasNone (m : ChannelsSeen) (lines : List Direction) (processes : List Process) (below : Seen) : Type 0 where
   pub managed : IsManaged m.config m.manage
   pub clock : m.clock ≡ below.now
@@ -33,6 +35,7 @@ pub record HasNone (m : ChannelsSeen) (lines : List Direction) (processes : List
   pub ids : m.ids ≡ []
   pub lines_are : lines ≡ []
   pub numbered : (i n : ℕ) (p q : Port) → HasLive processes i n p → HasLive processes i n q → p ≡ q
+  pub based : (i n : ℕ) (port : Port) → HasLive processes i n port → (end : End) × (end_of below port ≡ Some end)
 
 abbrev pub NoneStand : Type 0
 NoneStand = (m : ChannelsSeen) (lines : List Direction) (processes : List Process) (below : Seen) → HasNone m lines processes below → IsStanding m lines processes below
@@ -46,15 +49,45 @@ pub record IsUnused (e : End) : Type 0 where
   pub got : e.got ≡ []
   pub taken : e.taken ≡ 0
 
--- the two channels are those of the two ends of one flow below, which has no channels yet. A live link with the port of one
--- is its link, and no PDU of a management connection is there
+-- a new channel has this link. No channel that was there has its port, and none may still claim that. A live link with its port
+-- is this one, and no PDU of a management connection is there
+pub record IsNewLink (m : ChannelsSeen) (processes : List Process) (below : Seen) (channel : Channel) (link : Attachment) : Type 0 where
+  pub link_is : channel.link ≡ Some link
+  pub others : (k : ℕ) (other : Channel) → slice_get m.channels k ≡ Some other → IsOnPort other link.port → ⊥
+  pub free : IsUnclaimed m below link.port → ⊥
+  pub own : (i n : ℕ) → HasLive processes i n link.port → (channel.member ≡ i) × (link.number ≡ n)
+  pub silent : (death : ℕ) (pdu : Pdu) → IsOfLink pdu → IsOn m.config processes below channel death pdu → ⊥
+
+-- the channel of the other end of the flow below has a link too
+pub record IsFarLinked (m : ChannelsSeen) (processes : List Process) (below : Seen) (near : Port) (far : Channel) : Type 0 where
+  pub link : Attachment
+  pub is_new : IsNewLink m processes below far link
+  pub flow : IsFlowBelow m.config below near link.port
+
+-- or it has none yet, and the port that it may claim is silent
+pub record IsFarUnclaimed (m : ChannelsSeen) (processes : List Process) (below : Seen) (near : Port) (far : Channel) : Type 0 where
+  pub none : far.link ≡ None
+  pub between : RunsBetween m.config below near
+  pub silent : (port : Port) → IsFlowBelow m.config below near port → IsSilent m processes below port
+
+-- the two channels are those of the two ends of one flow below, which has no channels yet
 pub record IsNewFlow (m : ChannelsSeen) (processes : List Process) (below : Seen) (near far : Channel) : Type 0 where
-  pub flow : IsFlowBelow m.config below near.port far.port
-  pub others : (k : ℕ) (channel : Channel) → slice_get m.channels k ≡ Some channel → (channel.port ≢ near.port) × (channel.port ≢ far.port)
-  pub near_link : (i n : ℕ) → HasLive processes i n near.port → (near.member ≡ i) × (near.number ≡ n)
-  pub far_link : (i n : ℕ) → HasLive processes i n far.port → (far.member ≡ i) × (far.number ≡ n)
-  pub near_silent : (death : ℕ) (pdu : Pdu) → IsOfLink pdu → IsOn m.config processes below near death pdu → ⊥
-  pub far_silent : (death : ℕ) (pdu : Pdu) → IsOfLink pdu → IsOn m.config processes below far death pdu → ⊥
+  pub link : Attachment
+  pub is_new : IsNewLink m processes below near link
+  pub other : IsFarLinked m processes below link.port far ⊎ IsFarUnclaimed m processes below link.port far
+
+-- a member asked for a flow below: the port is that of the asker's end, and was never drawn before
+pub record IsAskedBelow (g : Config) (old new : Seen) (port : Port) : Type 0 where
+  pub end : End
+  pub here : end_of new port ≡ Some end
+  pub asks : end.role ≡ Asker
+  pub mine : IsMine g.members end.app
+  pub fresh : end_of old port ≡ None
+
+-- such a flow is new, and what may become the port of its other end is silent
+abbrev pub AskedFlowsAreNew : Type 0
+AskedFlowsAreNew = (m : ChannelsSeen) (lines : List Direction) (processes : List Process) (old new : Seen) (near far : Channel) (link : Attachment) →
+    AreKept old → AreKept new → IsStanding m lines processes old → IsLifted m.config old new → IsAskedBelow m.config old new link.port → near.link ≡ Some link → far.link ≡ None → IsNewFlow m processes new near far
 
 -- a direction between places starts now
 abbrev pub begun : ChannelsSeen → ℕ → ℕ → Direction
@@ -84,18 +117,35 @@ abbrev pub MakingStands : Type 0
 MakingStands = (m : ChannelsSeen) (lines : List Direction) (processes : List Process) (below : Seen) (near far : Channel) (asker end : End) (m' : ChannelsSeen) (lines' : List Direction) →
     IsStanding m lines processes below → IsNewFlow m processes below near far → AreMade m lines near far asker end m' lines' → IsStanding m' lines' processes below
 
--- An IPC process takes the flow as its link
+-- The other end of the flow below is claimed
 
--- the link of a channel becomes live with this number, which no live link of the IPC process has, and no other one does.
--- No PDU of a management connection waits for it
-pub record IsLinkLive (old : List Process) (channel : Channel) (number : ℕ) (new : List Process) : Type 0 where
-  pub waits : (i n : ℕ) (item : Queued) → Waits new i n item → Waits old i n item ⊎ (IsOfLink item.pdu → ⊥)
-  pub live : (i n : ℕ) (port : Port) → HasLive new i n port → HasLive old i n port ⊎ ((i ≡ channel.member) × (n ≡ number) × (port ≡ channel.port))
-  pub first : (i n : ℕ) → HasLive old i n channel.port → ⊥
-  pub unused : (port : Port) → HasLive old channel.member number port → ⊥
-  pub idle : (item : Queued) → Waits old channel.member number item → IsOfLink item.pdu → ⊥
+-- the channel at a place, which has no link, gets one: its port is that of the other end of the flow below that its partner's link is
+pub record IsClaimed (m : ChannelsSeen) (below : Seen) (k : ℕ) (link : Attachment) (m' : ChannelsSeen) : Type 0 where
+  pub channel : Channel
+  pub stands : slice_get m.channels k ≡ Some channel
+  pub none : channel.link ≡ None
+  pub partner : Channel
+  pub is_partner : slice_get m.channels channel.partner ≡ Some partner
+  pub near : Port
+  pub on_port : IsOnPort partner near
+  pub flow : IsFlowBelow m.config below near link.port
+  pub new_is : m' ≡ record m { channels = slice_set m.channels k (record channel { link = Some link }) }
+
+abbrev pub ClaimingStands : Type 0
+ClaimingStands = (m : ChannelsSeen) (lines : List Direction) (processes : List Process) (below : Seen) (k : ℕ) (link : Attachment) (m' : ChannelsSeen) →
+    AreKept below → IsStanding m lines processes below → IsClaimed m below k link m' → IsStanding m' lines processes below
+
+-- An IPC process takes its end of the flow as its link
+
+-- at the IPC process of place i this link becomes live, and no other one does. None that is live there has its number, for which no PDU of
+-- a management connection waits
+pub record IsLinkLive (old : List Process) (i : ℕ) (link : Attachment) (new : List Process) : Type 0 where
+  pub waits : (j n : ℕ) (item : Queued) → Waits new j n item → Waits old j n item ⊎ (IsOfLink item.pdu → ⊥)
+  pub live : (j n : ℕ) (port : Port) → HasLive new j n port → HasLive old j n port ⊎ ((j ≡ i) × (n ≡ link.number) × (port ≡ link.port))
+  pub unused : (port : Port) → HasLive old i link.number port → ⊥
+  pub idle : (item : Queued) → Waits old i link.number item → IsOfLink item.pdu → ⊥
 
 abbrev pub LinkingStands : Type 0
-LinkingStands = (m : ChannelsSeen) (lines : List Direction) (processes processes' : List Process) (below : Seen) (k : ℕ) (channel : Channel) (number : ℕ) →
-    IsStanding m lines processes below → slice_get m.channels k ≡ Some channel → IsLinkLive processes channel number processes' →
-    IsStanding (record m { channels = slice_set m.channels k (record channel { number = number }) }) lines processes' below
+LinkingStands = (m : ChannelsSeen) (lines : List Direction) (processes processes' : List Process) (below : Seen) (k : ℕ) (channel : Channel) (link : Attachment) →
+    IsStanding m lines processes below → slice_get m.channels k ≡ Some channel → channel.link ≡ Some link → IsLinkLive processes channel.member link processes' →
+    IsStanding m lines processes' below

@@ -5,7 +5,7 @@ ghost use Rattle.rina_channel.specs.CallLaws.{CallsChangeEnds, CallsForPiecesArr
 ghost use Rattle.rina_channel.specs.Coming.{TakingOnLinksIsLawful, TakingOnLinksStands};
 ghost use Rattle.rina_channel.specs.FlowLaws.{AcknowledgingServesLinks, ArrivalsNoteLinks, EndingNotesLinks, ForgettingNotesLinks, LinksLeaveFlows, MessagesServeLinks, NotingLeavesLinks, ResendingServesLinks, TakingLeavesFlows};
 ghost use Rattle.rina_channel.specs.Laws.{AcknowledgingStands, AcksStand, BesideStands, ComingIsAwaited, ComingIsCovered, EndingStands, ForgettingStands, InStepsOfOthersStand, MessagesAreKept, MessagesAreLawful, MessagesStand, OtherPdusStand, OutStepsOfOthersStand, OutStepsStand, PassingStands, PiecesStand, ResendingStands, SendsOfOthersStand, TakingStands, TimeStands};
-ghost use Rattle.rina_channel.specs.Making.{LinkingStands, MakingStands, NoneStand};
+ghost use Rattle.rina_channel.specs.Making.{AskedFlowsAreNew, ClaimingStands, LinkingStands, MakingStands, NoneStand};
 ghost use Rattle.rina_channel.specs.OwnLaws.{AcknowledgingLeavesLinks, EndingLeavesLinks, FailingLeavesLinks, ForgettingLeavesLinks, LosingLeavesLinks, PassesLeaveLinks, ResendingLeavesLinks, SendsLeaveLinks, SettlingLeavesLinks};
 
 /// The messages that an end of a link handled are the first that its partner offered, each once, in order and in time.
@@ -15,11 +15,14 @@ pub fn messages_are_kept()
     ensures lawful { MessagesAreLawful }
 {}
 
-/// A DIF without management connections stands with none. It goes on to stand as a flow below between two members gets its
-/// two ends, and as an IPC process takes that flow as its link.
+/// A DIF without management connections stands with none. It goes on to stand as a flow below between two members, be it one
+/// that was just asked for, gets its two ends, as the far one is claimed later, and as an IPC process takes its end of that
+/// flow as its link.
 pub fn links_get_channels()
     ensures none { NoneStand }
+    ensures ask { AskedFlowsAreNew }
     ensures make { MakingStands }
+    ensures claim { ClaimingStands }
     ensures link { LinkingStands }
 {}
 

@@ -2,13 +2,11 @@
 #![tactic(auto)]
 
 mod channel;
-mod channels;
 mod laws;
 mod ledger;
 mod names;
 
-pub use channel::{Channel, channel_at, peer_at};
-pub use channels::{ChannelList, Channels};
+pub use channel::{Attachment, Channel, channel_at, peer_at};
 pub use laws::{
     arrivals_keep_channels, calls_are_those_of_channels, channels_leave_flows,
     flows_leave_channels, links_get_channels, messages_are_kept, out_steps_keep_channels,

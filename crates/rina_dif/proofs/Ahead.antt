@@ -142,10 +142,10 @@ module _ (d : Dif) (at since : ℕ) (port : Port) (hop : Hop) (lines : List Dire
       let t = taker_at g d.clock d.connections h.connected.lines ps below st port hop.pdu place its taker in
       let on = t.2.2 in
       let real : Pdu = named t.0.partner place hop.pdu in
-      let here : s.place ≡ place = st.channels.apart s.place place s.channel t.0 s.taker.stands on.stands (s.taker.port_is ∙ sym on.port_is) in
+      let here : s.place ≡ place = st.channels.apart s.place place s.channel t.0 port s.taker.stands on.stands s.taker.on_port on.on_port in
       let channel : s.channel ≡ t.0 = same_Some s.channel t.0 (sym s.taker.stands ∙ ap (slice_get m.channels) here ∙ on.stands) in
       let in_time : d.clock - o.entry.tick ≤ hop.left = subst (λ (x : ℕ). d.clock - x ≤ hop.left) (sym o.tick) link.0 in
-      let awaited = coming_is_awaited m h.connected.lines ps below place t.0 o.entry hop kept st on.stands (ap (unpassed below) on.port_is ∙ o.oldest) o.opens link.1 in_time in
+      let awaited = coming_is_awaited m h.connected.lines ps below place t.0 port o.entry hop kept st on.stands on.on_port o.oldest o.opens link.1 in_time in
       let is_at : IsAt d.connections.flows.journal.ends d.connections.flows.conns place t.2.0 taker.conn = record { end_is = on.takes.is_conn.end; conn_is = taker.is_conn } in
       let ids : t.2.1 ≡ ids_of taker.conn = same_Some t.2.1 (ids_of taker.conn) (sym on.takes.is_conn.ids_are ∙ ids_at d.connections.flows.conns place taker.conn taker.is_conn) in
       let names : IsFrom (flipped (ids_of taker.conn)) real = subst (λ (z : Ids). IsFrom (flipped z) real) ids on.takes.names in

@@ -1,21 +1,19 @@
 -- At which of the links of an IPC process a management message is due.
 use Rattle.std.proofs.Common.{◌≡◌, ◌∙◌, ℕ, ◌+◌, ◌<◌, ◌≤◌, ◌⊎◌, true, false, List, length, slice_get, Option, Some, None, Result, Ok, Err, refl, sym, ap, subst, arith, inl, inr}
 use Rattle.std.proofs.lemmas.Bool.{cases_lt}
-use Rattle.std.proofs.lemmas.Option.{slice_get_within}
 use Rattle.rina_base.specs.declared.memory.Memory.{Memory}
 use Rattle.rina_iface.specs.Seen.{Seen}
 use Rattle.rina_law.specs.Direction.{Direction}
-use Rattle.rina_member.specs.Knowing.{AreNumbered}
-use Rattle.rina_data.specs.declared.link.Link.{Link}
 use Rattle.rina_data.specs.declared.process.IpcProcess.{IpcProcess}
 use Rattle.rina_data.specs.Deciding.{process_of}
 use Rattle.rina_data.specs.Process.{Process}
 use Rattle.rina_data.proofs.Finding.{there}
 use Rattle.rina_dif.specs.declared.dif.Dif.{Dif}
 use Rattle.rina_dif.specs.Holding.{Holds, LinksStand}
+use Rattle.rina_dif.specs.Managing.{AreBounded}
 use Rattle.rina_dif.specs.Messaging.{IsMessageDue, OffersAmong, OffersAt}
 use Rattle.rina_dif.specs.Shown.{seen_of}
-use Rattle.rina_dif.proofs.Leaves.{has_process, shown_at}
+use Rattle.rina_dif.proofs.Leaves.{shown_at}
 use Rattle.rina_dif.proofs.Managed.{its_agent}
 
 same_some : {X : Type 0} (o : Option X) (a b : X) → o ≡ Some a → o ≡ Some b → a ≡ b
@@ -23,32 +21,24 @@ same_some o a b h g = cc
 
 -- Their numbers
 
--- the IPC process of a place has its links by number
-numbers_of : (d : Dif) (lines : List Direction) (below : Seen) (i : ℕ) (p : IpcProcess) → Holds d lines below → i < length d.settings.members → slice_get d.processes i ≡ Some p → AreNumbered p.links
+-- the links of the IPC process of a place have the first numbers
+numbers_of : (d : Dif) (lines : List Direction) (below : Seen) (i : ℕ) (p : IpcProcess) → Holds d lines below → i < length d.settings.members → slice_get d.processes i ≡ Some p → AreBounded p.links
 numbers_of d lines below i p h lt is =
     let m = there d.settings.members i lt in
     let g = its_agent d.settings.members d.managements i m.0 h.managed.aligned m.1 in
-    (h.managed.each i m.0 p g.0 m.1 is g.1).knows.numbers
+    (h.managed.each i m.0 p g.0 m.1 is g.1).bounded
 
 -- a message is due at one of them
-due_within : (d : Dif) (lines : List Direction) (below : Seen) (links : List Direction) (i : ℕ) (p : IpcProcess) (place number : ℕ) → Holds d lines below → i < length d.settings.members → slice_get d.processes i ≡ Some p → IsMessageDue d below links i place number → number < length p.links
+due_within : (d : Dif) (lines : List Direction) (below : Seen) (links : List Direction) (i : ℕ) (p : IpcProcess) (place number : ℕ) → Holds d lines below → i < length d.settings.members → slice_get d.processes i ≡ Some p → IsMessageDue d below links i place number → number < 16
 due_within d lines below links i p place number h lt is due =
     let here = due.open_end.here in
-    let live = here.live in
+    let live = here.live.live in
     let same = same_some (slice_get (seen_of d).processes here.channel.member) live.process (process_of p) live.is_process (ap (slice_get (seen_of d).processes) here.member ∙ shown_at d i p is) in
     let stands : slice_get p.links live.place ≡ Some live.link = ap (λ (z : Process). slice_get z.links live.place) (sym same) ∙ live.stands in
-    let numbered = numbers_of d lines below i p h lt is live.place live.link stands in
-    let within = slice_get_within p.links live.place live.link stands in
+    let bounded = numbers_of d lines below i p h lt is live.place live.link stands in
     let number_is = here.number_is in
     let live_is = live.number_is in
-    omega (arith, numbered, within, number_is, live_is)
-
--- the number of the link at a place is that place
-pub number_is : (d d' : Dif) (lines : List Direction) (below : Seen) (i n number : ℕ) → Holds d lines below → i < length d.settings.members → d' ≡ d → ((p : IpcProcess) → slice_get d.processes i ≡ Some p → n < length p.links) → ((p : IpcProcess) (link : Link) → slice_get d'.processes i ≡ Some p → slice_get p.links n ≡ Some link → number ≡ link.number) → number ≡ n
-number_is d d' lines below i n number h lt same count told =
-    let p = has_process d below i (lines, h) lt in
-    let link = there p.0.links n (count p.0 p.1) in
-    told p.0 link.0 (ap (λ (z : Dif). slice_get z.processes i) same ∙ p.1) link.1 ∙ numbers_of d lines below i p.0 h lt p.1 n link.0 link.1
+    omega (arith, bounded, number_is, live_is)
 
 -- none is due at the links of lesser numbers, and nothing has changed
 pub record NoneBefore (d d' : Dif) (below : Seen) (i n : ℕ) : Type 0 where
@@ -59,40 +49,40 @@ pub none_before : (d : Dif) (below : Seen) (i : ℕ) → NoneBefore d d below i 
 none_before d below i = record { same = refl; none = λ links place number lt due. absurd (omega (arith, lt)) }
 
 -- nor at this one
-pub none_here : (d d' d'' : Dif) (lines : List Direction) (below : Seen) (i n number : ℕ) → Holds d lines below → number ≡ n → NoneBefore d d' below i n → ((lines : List Direction) → Holds d' lines below → OffersAt d' lines below i number (Ok false) d'') → NoneBefore d d'' below i (n + 1)
-none_here d d' d'' lines below i n number h is before offers =
+pub none_here : (d d' d'' : Dif) (lines : List Direction) (below : Seen) (i n : ℕ) → Holds d lines below → NoneBefore d d' below i n → ((lines : List Direction) → Holds d' lines below → OffersAt d' lines below i n (Ok false) d'') → NoneBefore d d'' below i (n + 1)
+none_here d d' d'' lines below i n h before offers =
     let at = offers lines (subst (λ (z : Dif). Holds z lines below) (sym before.same) h) in
     record {
       same = at.1 ∙ before.same;
       none = λ links place its lt due. elim (cases_lt its n) [
         | inl less ↦ before.none links place its less due
         | inr ge ↦
-            let same : its ≡ number = omega (arith, lt, ge, is) in
-            none_of d d' lines below i number before.same offers h links place (subst (λ (k : ℕ). IsMessageDue d below links.lines i place k) same due)
+            let same : its ≡ n = omega (arith, lt, ge) in
+            none_of d d' lines below i n before.same offers h links place (subst (λ (k : ℕ). IsMessageDue d below links.lines i place k) same due)
       ];
     }
   where
-    none_of : (d d' : Dif) (lines : List Direction) (below : Seen) (i number : ℕ) → d' ≡ d → ((lines : List Direction) → Holds d' lines below → OffersAt d' lines below i number (Ok false) d'') → Holds d lines below → (links : LinksStand d below) (place : ℕ) → IsMessageDue d below links.lines i place number → ⊥
-    none_of d d' lines below i number same offers h = subst (λ (z : Dif). (links : LinksStand z below) (place : ℕ) → IsMessageDue z below links.lines i place number → ⊥) same (offers lines (subst (λ (z : Dif). Holds z lines below) (sym same) h)).0
+    none_of : (d d' : Dif) (lines : List Direction) (below : Seen) (i n : ℕ) → d' ≡ d → ((lines : List Direction) → Holds d' lines below → OffersAt d' lines below i n (Ok false) d'') → Holds d lines below → (links : LinksStand d below) (place : ℕ) → IsMessageDue d below links.lines i place n → ⊥
+    none_of d d' lines below i n same offers h = subst (λ (z : Dif). (links : LinksStand z below) (place : ℕ) → IsMessageDue z below links.lines i place n → ⊥) same (offers lines (subst (λ (z : Dif). Holds z lines below) (sym same) h)).0
 
 -- The answer
 
-pub none_among : (d d' : Dif) (lines : List Direction) (below : Seen) (i n : ℕ) (p : IpcProcess) → Holds d lines below → i < length d.settings.members → slice_get d.processes i ≡ Some p → length p.links ≤ n → NoneBefore d d' below i n → OffersAmong d lines below i (Ok None) d'
+pub none_among : (d d' : Dif) (lines : List Direction) (below : Seen) (i n : ℕ) (p : IpcProcess) → Holds d lines below → i < length d.settings.members → slice_get d.processes i ≡ Some p → 16 ≤ n → NoneBefore d d' below i n → OffersAmong d lines below i (Ok None) d'
 none_among d d' lines below i n p h lt is most before = (
   λ links place number due. (let within = due_within d lines below links.lines i p place number h lt is due in before.none links place number (omega (arith, most, within)) due),
   before.same,
 )
 
-pub one_among : (d d' d'' : Dif) (lines : List Direction) (below : Seen) (i n number : ℕ) → Holds d lines below → number ≡ n → NoneBefore d d' below i n → ((lines : List Direction) → Holds d' lines below → OffersAt d' lines below i number (Ok true) d'') → OffersAmong d lines below i (Ok (Some number)) d''
-one_among d d' d'' lines below i n number h is before offers =
-    let at : OffersAt d lines below i number (Ok true) d'' = subst (λ (z : Dif). OffersAt z lines below i number (Ok true) d'') before.same (offers lines (subst (λ (z : Dif). Holds z lines below) (sym before.same) h)) in (
+pub one_among : (d d' d'' : Dif) (lines : List Direction) (below : Seen) (i n : ℕ) → Holds d lines below → NoneBefore d d' below i n → ((lines : List Direction) → Holds d' lines below → OffersAt d' lines below i n (Ok true) d'') → OffersAmong d lines below i (Ok (Some n)) d''
+one_among d d' d'' lines below i n h before offers =
+    let at : OffersAt d lines below i n (Ok true) d'' = subst (λ (z : Dif). OffersAt z lines below i n (Ok true) d'') before.same (offers lines (subst (λ (z : Dif). Holds z lines below) (sym before.same) h)) in (
       λ links. (let x = at.0 links in record { place = x.0; offers = x.1; least = λ other its due. least links other its due (cases_lt its n) }),
       at.1,
     )
   where
-    least : (links : LinksStand d below) (other its : ℕ) → IsMessageDue d below links.lines i other its → (its < n) ⊎ (n ≤ its) → number ≤ its
+    least : (links : LinksStand d below) (other its : ℕ) → IsMessageDue d below links.lines i other its → (its < n) ⊎ (n ≤ its) → n ≤ its
     least links other its due (inl lt) = absurd (before.none links other its lt due)
-    least links other its due (inr le) = omega (arith, is, le)
+    least links other its due (inr le) = le
 
-pub err_among : (d d' d'' : Dif) (lines : List Direction) (below : Seen) (i n number : ℕ) (r : Result (Option ℕ) Memory) (e e' : Memory) → r ≡ Err e → Holds d lines below → NoneBefore d d' below i n → ((lines : List Direction) → Holds d' lines below → OffersAt d' lines below i number (Err e') d'') → OffersAmong d lines below i r d''
-err_among d d' d'' lines below i n number r e e' is h before offers = subst (λ (z : Result (Option ℕ) Memory). OffersAmong d lines below i z d'') (sym is) (offers lines (subst (λ (z : Dif). Holds z lines below) (sym before.same) h) ∙ before.same)
+pub err_among : (d d' d'' : Dif) (lines : List Direction) (below : Seen) (i n : ℕ) (r : Result (Option ℕ) Memory) (e e' : Memory) → r ≡ Err e → Holds d lines below → NoneBefore d d' below i n → ((lines : List Direction) → Holds d' lines below → OffersAt d' lines below i n (Err e') d'') → OffersAmong d lines below i r d''
+err_among d d' d'' lines below i n r e e' is h before offers = subst (λ (z : Result (Option ℕ) Memory). OffersAmong d lines below i z d'') (sym is) (offers lines (subst (λ (z : Dif). Holds z lines below) (sym before.same) h) ∙ before.same)

@@ -20,7 +20,7 @@ pub kept_seen : (d d' : Dif) → KeepsAll d d' → seen_of d' ≡ seen_of d
 kept_seen d d' k = ap seen_of k.is
 
 pub kept_holds : (d d' : Dif) (lines : List Direction) (below : Seen) → KeepsAll d d' → Holds d lines below → Holds d' lines below
-kept_holds d d' lines below k h = subst (λ (x : Dif). Holds x lines below) (sym k.is) (record { tied = h.tied; standing = h.standing; carrying = h.carrying; numbered = h.numbered; accounted = h.accounted; caused = h.caused; written_off = h.written_off; housed = h.housed; managed = managed_shown d.settings.members d.laid.links d.clock d.processes d.managements d'.managements k.agents h.managed; enrolled = enrolled_on d.laid.is_static d.settings.members d.settings.admits d.managements d'.managements d.enrolled (states_agents d.managements d'.managements k.agents) h.enrolled; connected = h.connected; flooded = λ still. same_agents d d'.managements k.agents (h.flooded (k.alive still)) })
+kept_holds d d' lines below k h = subst (λ (x : Dif). Holds x lines below) (sym k.is) (record { tied = h.tied; standing = h.standing; carrying = h.carrying; numbered = h.numbered; accounted = h.accounted; caused = h.caused; written_off = h.written_off; housed = h.housed; managed = managed_shown d.laid.is_static d.settings.members d.laid.links d.clock d.processes d.managements d'.managements k.agents h.managed; enrolled = enrolled_on d.laid.is_static d.settings.members d.settings.admits d.managements d'.managements d.enrolled (states_agents d.managements d'.managements k.agents) h.enrolled; connected = h.connected; flooded = λ still. same_agents d d'.managements k.agents (h.flooded (k.alive still)) })
 
 pub kept_stands : (d d' : Dif) → KeepsAll d d' → StaysStanding d d'
 kept_stands d d' k = λ below s. (s.0, kept_holds d d' s.0 below k s.1)

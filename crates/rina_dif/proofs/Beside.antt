@@ -46,16 +46,18 @@ use Rattle.rina_dif.specs.Clocking.{Serves, ServesAny, Steps, StepsFlow, StepsHe
 use Rattle.rina_dif.specs.Facade.{GoesOn, OthersStand}
 use Rattle.rina_dif.specs.Holding.{Holds, LinksStand, Stands}
 use Rattle.rina_dif.specs.LinkSteps.{DoesLink}
+use Rattle.rina_dif.proofs.Enrolled.{stay_same}
 use Rattle.rina_dif.proofs.FreedBelow.{holds_freed}
 use Rattle.rina_flows.specs.declared.flows.Flows.{Flows}
 use Rattle.rina_iface.specs.Later.{IsLater}
 use Rattle.rina_dif.specs.Shown.{seen_of}
+use Rattle.rina_dif.specs.Managing.{StayEnrolled}
 use Rattle.rina_dif.specs.Routing.{MayReroute}
 use Rattle.rina_dif.specs.Taking.{TakesIn}
 use Rattle.rina_dif.specs.Whole.{IsDif}
 use Rattle.rina_dif.proofs.Causing.{LowerStays, caused_on, lower_later, lower_same, none_is}
 use Rattle.rina_dif.proofs.Cutting.{loses_silent}
-use Rattle.rina_channel.proofs.Frame.{FlowsGoOn, flow_later}
+use Rattle.rina_channel.proofs.Below.{EndsGoOn, ends_go_on, ends_stay}
 use Rattle.rina_dif.proofs.Connected.{aside_connected}
 
 -- What another DIF sends or takes below is nothing to a DIF
@@ -66,10 +68,10 @@ record IsAside (g : Config) (below below' : Seen) : Type 0 where
   clock : below'.now ≡ below.now
   accounts : (d : DifSeen) (lines : List Direction) → d.config ≡ g → IsAccounted d lines below → IsAccounted d lines below'
   lower : LowerStays g below below'
-  goes : FlowsGoOn g below below'
+  goes : EndsGoOn below below'
 
 aside_same : (g : Config) (below below' : Seen) → below' ≡ below → IsAside g below below'
-aside_same g below below' is = subst (IsAside g below) (sym is) (record { after = after_none g below; clock = refl; accounts = λ d lines same a. a; lower = lower_same g below below refl; goes = λ near far f. f })
+aside_same g below below' is = subst (IsAside g below) (sym is) (record { after = after_none g below; clock = refl; accounts = λ d lines same a. a; lower = lower_same g below below refl; goes = ends_stay below })
 
 -- the end of another DIF's link is that of no member
 not_linked : (d o : DifSeen) (below : Seen) (i : ℕ) (member : Member) (port : Port) → AreApart o d → slice_get o.config.members i ≡ Some member → IsLinked below member.name port → (e : End) → end_of below port ≡ Some e → IsMine d.config.members e.app → ⊥
@@ -94,7 +96,7 @@ forwarded_aside refuses d o olines below i n process key process' below' kept ke
       clock = ap (λ (z : Seen). z.now) s.sent.1.new_is;
       accounts = λ z lines same a. sends_of_others_account z lines below s.link.port bytes s.num below' kept' a (not_mine z d below s.link.port same others) s.sent.1;
       lower = lower_later d.config below below' kept' later;
-      goes = λ near far f. flow_later d.config below below' near far later kept' f;
+      goes = ends_go_on below below' later kept';
     }
 
 offs_aside : (refuses : Port → ℕ → Option SendError) (d o : DifSeen) (below : Seen) (n : ℕ) (process : Process) (key : Key) (cause : Cause) (process' : Process) (below' : Seen) → Offs refuses o.config o.clock process below n key cause process' below' → IsAside d.config below below'
@@ -137,12 +139,12 @@ ins_aside d o olines below i n (Ok (in_.Took key end)) o' olines' below' kept ke
       clock = ap (λ (x : Seen). x.now) s.passed.new_is;
       accounts = λ z lines same a. passes_of_others_account z lines below s.link.port below' kept' a (not_mine z d below s.link.port same others) s.passed;
       lower = lower_later d.config below below' kept' (later_passes below s.link.port below' s.passed);
-      goes = λ near far f. flow_later d.config below below' near far (later_passes below s.link.port below' s.passed) kept' f;
+      goes = ends_go_on below below' (later_passes below s.link.port below' s.passed) kept';
     }
 ins_aside d o olines below i n (Err Memory) o' olines' below' kept kept' so apart s = aside_same d.config below below' s.2
 ins_aside d o olines below i n (Err NoIpc) o' olines' below' kept kept' so apart s = aside_same d.config below below' s.3
 ins_aside d o olines below i n (Err NoLink) o' olines' below' kept kept' so apart s = aside_same d.config below below' s.3
-ins_aside d o olines below i n (Err (CountSpent need left)) o' olines' below' kept kept' so apart s = absurd s
+ins_aside d o olines below i n (Err (CountSpent need left)) o' olines' below' kept kept' so apart s = aside_same d.config below below' s.2
 
 ins_clock : (o : DifSeen) (olines : List Direction) (below : Seen) (i n : ℕ) (r : Result InStep StepError) (o' : DifSeen) (olines' : List Direction) (below' : Seen) → Ins o olines below i n r o' olines' below' → below'.now ≡ below.now
 ins_clock o olines below i n (Ok in_.Idle) o' olines' below' s = ap (λ (x : Seen). x.now) s.3
@@ -150,7 +152,7 @@ ins_clock o olines below i n (Ok (in_.Took key end)) o' olines' below' s = ap (�
 ins_clock o olines below i n (Err Memory) o' olines' below' s = ap (λ (x : Seen). x.now) s.2
 ins_clock o olines below i n (Err NoIpc) o' olines' below' s = ap (λ (x : Seen). x.now) s.3
 ins_clock o olines below i n (Err NoLink) o' olines' below' s = ap (λ (x : Seen). x.now) s.3
-ins_clock o olines below i n (Err (CountSpent need left)) o' olines' below' s = absurd s
+ins_clock o olines below i n (Err (CountSpent need left)) o' olines' below' s = ap (λ (x : Seen). x.now) s.2
 
 -- so a DIF holds on
 holds_aside : (d : Dif) (lines : List Direction) (below below' : Seen) → IsAside (config_of d.settings) below below' → Holds d lines below → Holds d lines below'
@@ -187,7 +189,7 @@ silent_refl d = record {
 -- nothing was done
 pub no_step : (d : Dif) (below : Seen) → Stands d below → IsStep d below d below
 no_step d below st = record {
-  goes_on = record { later = fac_refl d.clock d.clock (fac_of (seen_of d)); facility = facility (seen_of d) st.0 below st.1.standing; clock = refl; enrolled = refl };
+  goes_on = record { later = fac_refl d.clock d.clock (fac_of (seen_of d)); facility = facility (seen_of d) st.0 below st.1.standing; clock = refl; enrolled = stay_same d.enrolled d.enrolled refl };
   silent = silent_refl (seen_of d);
   others = λ other lines apart h. h;
 }
@@ -211,7 +213,7 @@ pub out_is_step : (refuses : Port → ℕ → Option SendError) (d : Dif) (below
 out_is_step refuses d below i n r d' below' enrolled kept kept' st outs keeps =
     let silent = outs_silent refuses (seen_of d) below i n r (seen_of d') below' outs in
     record {
-      goes_on = record { later = silent.later; facility = facility (seen_of d') st.0 below' (keeps st.0 st.1).standing; clock = step_clock (seen_of d) refuses below i n r (seen_of d') below' outs; enrolled = enrolled };
+      goes_on = record { later = silent.later; facility = facility (seen_of d') st.0 below' (keeps st.0 st.1).standing; clock = step_clock (seen_of d) refuses below i n r (seen_of d') below' outs; enrolled = stay_same d.enrolled d'.enrolled enrolled };
       silent = silent;
       others = λ other lines apart h. holds_aside other lines below below' (outs_aside refuses (seen_of other) (seen_of d) st.0 below i n r (seen_of d') below' kept kept' st.1.standing apart outs) h;
     }
@@ -219,9 +221,9 @@ out_is_step refuses d below i n r d' below' enrolled kept kept' st outs keeps =
 -- other next hops are nothing to it
 silent_rerouted : (d mid d' : DifSeen) → MayReroute mid d' → IsSilent d mid → IsSilent d d'
 silent_rerouted d mid d' (inl same) s = subst (IsSilent d) (sym same) s
-silent_rerouted d mid d' (inr r) s = subst (IsSilent d) (sym r.is) (record { later = s.later; number = s.number; same = s.same })
+silent_rerouted d mid d' (inr r) s = subst (IsSilent d) (sym r.is) (record { later = record { ends = s.later.ends; cubes = s.later.cubes }; number = s.number; same = s.same })
 
-pub in_is_step : (d : Dif) (below : Seen) (i n : ℕ) (r : Result InStep StepError) (d' : Dif) (below' : Seen) → d'.enrolled ≡ d.enrolled → AreKept below → AreKept below' → (st : Stands d below) → TakesIn d st.0 below i n r d' below' → IsStep d below d' below'
+pub in_is_step : (d : Dif) (below : Seen) (i n : ℕ) (r : Result InStep StepError) (d' : Dif) (below' : Seen) → StayEnrolled d.enrolled d'.enrolled → AreKept below → AreKept below' → (st : Stands d below) → TakesIn d st.0 below i n r d' below' → IsStep d below d' below'
 in_is_step d below i n r d' below' enrolled kept kept' st t =
     let clock = ins_clock (seen_of d) st.0 below i n r (seen_of t.taken) t.lines' below' t.does in
     let silent = silent_rerouted (seen_of d) (seen_of t.taken) (seen_of d') t.rerouted (ins_silent (seen_of d) st.0 below i n r (seen_of t.taken) t.lines' below' st.1.standing t.does) in
@@ -274,7 +276,7 @@ over_same below below' same = record { clock = ap (λ (z : Seen). z.now) same; s
 
 link_over : (d : Dif) (links : List Direction) (below : Seen) (i place : ℕ) (done : ClockStep) (new : DifSeen) (flows' : Flows) (below' : Seen) → AreKept below → AreKept below' → IsLater below below' → DoesLink d links below i place done new flows' below' → IsOver below below'
 link_over d links below i place (step.Gone cep) new flows' below' kept kept' later s = over_same below below' s.2
-link_over d links below i place (step.GaveUp num) new flows' below' kept kept' later s = record { clock = ap (λ (z : Seen). z.now) s.freed.new_is; stands = λ other lines h. holds_freed other lines s.both below below' s.channel.port kept kept' later s.freed h }
+link_over d links below i place (step.GaveUp num) new flows' below' kept kept' later s = record { clock = ap (λ (z : Seen). z.now) s.freed.new_is; stands = λ other lines h. holds_freed other lines s.both below below' s.attached.port kept kept' later s.freed h }
 link_over d links below i place (step.Ack cep) new flows' below' kept kept' later s = over_same below below' s.2
 link_over d links below i place (step.Again num) new flows' below' kept kept' later s = over_same below below' s.1
 link_over d links below i place step.Idle new flows' below' kept kept' later s = absurd s
@@ -304,7 +306,7 @@ steps_over d lines below node (step.Message link) d' lines' below' links kept ke
 
 clock_on : (d : Dif) (below : Seen) (d' : Dif) (lines' : List Direction) (below' : Seen) → d'.enrolled ≡ d.enrolled → Stands d below → IsSilent (seen_of d) (seen_of d') → Holds d' lines' below' → IsOver below below' → IsStep d below d' below'
 clock_on d below d' lines' below' enrolled st silent h over = record {
-  goes_on = record { later = silent.later; facility = facility (seen_of d') lines' below' h.standing; clock = h.standing.clock ∙ over.clock ∙ sym st.1.standing.clock; enrolled = enrolled };
+  goes_on = record { later = silent.later; facility = facility (seen_of d') lines' below' h.standing; clock = h.standing.clock ∙ over.clock ∙ sym st.1.standing.clock; enrolled = stay_same d.enrolled d'.enrolled enrolled };
   silent = silent;
   others = λ other lines apart x. over.stands other lines x;
 }

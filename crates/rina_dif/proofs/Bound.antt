@@ -55,7 +55,7 @@ use Rattle.rina_dif.specs.Facade.{GoesOn, IsShownAs, StaysStanding, shown_as}
 use Rattle.rina_dif.specs.Holding.{Holds, Stands}
 use Rattle.rina_dif.specs.Shown.{seen_of}
 use Rattle.rina_dif.specs.Whole.{IsDif}
-use Rattle.rina_dif.proofs.Enrolled.{member_there}
+use Rattle.rina_dif.proofs.Enrolled.{member_there, stay_same}
 use Rattle.rina_dif.proofs.Refused.{members_there}
 use Rattle.rina_dif.proofs.Causing.{bound_caused}
 use Rattle.rina_dif.proofs.Facing.{same_goes_on, unchanged}
@@ -321,7 +321,7 @@ binds_go_on d fixed r d' is does = go r (does is.stands.0 is.below is.stands.1)
       later = bound_later (seen_of d) is.stands.0 fixed (seen_of d') x.lines' x.bound;
       facility = facility (seen_of d') x.lines' is.below x.holds.standing;
       clock = ap (λ (y : DifSeen). y.clock) x.bound.new_is;
-      enrolled = ap (λ (y : DifSeen). y.enrolled) x.bound.new_is;
+      enrolled = stay_same d.enrolled d'.enrolled (ap (λ (y : DifSeen). y.enrolled) x.bound.new_is);
     }
     go (Err Memory) x = same_goes_on d d' is x.0
     go (Err e) x = absurd x

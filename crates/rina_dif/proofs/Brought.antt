@@ -1,5 +1,5 @@
 -- What a member was told ahead of a piece is true of it once the piece was taken.
-use Rattle.std.proofs.Common.{◌≡◌, ◌∙◌, ℕ, ◌<◌, List, ◌++◌, length, slice_get, Option, Some, None, Ok, sym, ap, subst, inl, inr}
+use Rattle.std.proofs.Common.{◌≡◌, ◌∙◌, ℕ, ◌<◌, List, ◌++◌, length, slice_get, slice_set, Option, Some, None, Ok, refl, sym, ap, subst, inl, inr}
 use Rattle.std.specs.Prelude.{IfSome}
 use Rattle.std.proofs.lemmas.Option.{same_Some}
 use Rattle.rina_account.specs.declared.ledger.Off.{Off}
@@ -8,6 +8,7 @@ use Rattle.rina_base.specs.declared.cause.Cause.TheVariants as causes
 use Rattle.rina_base.specs.declared.number.Port.{Port}
 use Rattle.rina_base.specs.declared.pdu.PduKind.{PduKind}
 use Rattle.rina_base.specs.declared.pdu.PduKind.TheVariants.{Piece as APiece, Ack as AnAck}
+use Rattle.rina_channel.specs.declared.channel.Attachment.{Attachment}
 use Rattle.rina_channel.specs.declared.channel.Channel.{Channel}
 use Rattle.rina_channel.specs.Channels.{ChannelsSeen, HasLive}
 use Rattle.rina_channel.specs.Coming.{IsTaker, LeavesOff, TakesOnLink, TakesPiece}
@@ -35,10 +36,11 @@ use Rattle.rina_dif.specs.declared.connections.Connections.{Connections}
 use Rattle.rina_dif.specs.declared.dif.Dif.{Dif}
 use Rattle.rina_dif.specs.declared.messages_in.Handled.{Handled}
 use Rattle.rina_dif.specs.Connected.{channels_seen}
-use Rattle.rina_dif.specs.Handling.{HandlesInTurn, IsHandled, IsToldAhead, unpassed_sdus}
+use Rattle.rina_dif.specs.Handling.{HandlesInTurn, IsHandled, IsToldAhead, TellsNodes, unpassed_sdus}
 use Rattle.rina_dif.specs.Holding.{Holds}
 use Rattle.rina_dif.specs.LinkDue.{IsLinkEnd}
 use Rattle.rina_dif.specs.Shown.{seen_of}
+use Rattle.rina_dif.specs.Managing.{enrolled_nodes, states_of}
 use Rattle.rina_dif.specs.Taking.{BringsAhead, HasTaken, IsOldest, IsTakenOnLink, IsThere, MayBring, TakesFor}
 use Rattle.rina_dif.proofs.Ahead.{HasMore, more_unpassed, piece_brings}
 use Rattle.rina_dif.proofs.Leaves.{has_process}
@@ -48,6 +50,11 @@ use Rattle.rina_dif.proofs.Unlinked.{has_agent}
 
 no_piece : (k : PduKind) → k ≡ APiece → k ≡ AnAck → ⊥
 no_piece k piece ack = absurd cc
+
+-- who is enrolled is told of the same members
+tells_on : (d mid : Dif) (at : ℕ) (after : Management) (o : Option (List ℕ)) → mid.settings ≡ d.settings → mid.managements ≡ d.managements → TellsNodes d at after o → TellsNodes mid at after o
+tells_on d mid at after (Some nodes) settings managements h = h ∙ (λ j. enrolled_nodes (sym settings j).members (states_of (slice_set (sym managements j) at after)))
+tells_on d mid at after None settings managements h = λ m is. h m (ap (λ (ms : List Management). slice_get ms at) (sym managements) ∙ is)
 
 module _ (d : Dif) (at number since : ℕ) (port : Port) (hop : Hop) (lines : List Direction) (below : Seen) (h : Holds d lines below) (kept : AreKept below) (o : IsOldest (config_of d.settings) below port since hop) (lt : at < length d.settings.members) (live : HasLive (seen_of d).processes at number port) (w : Handled) (ahead : BringsAhead d at number since port hop w) where
   abbrev m : ChannelsSeen
@@ -91,11 +98,14 @@ module _ (d : Dif) (at number since : ℕ) (port : Port) (hop : Hop) (lines : Li
   took_piece (took.Off cause) dropped m' links' s = (Some cause, left_off cause dropped m' links' s)
 
   -- the link of its channel
-  live_there : HasLive (seen_of d).processes at number channel.port
-  live_there = subst (λ (p : Port). HasLive (seen_of d).processes at number p) (sym on.port_is) live
+  abbrev attached : Attachment
+  attached = on.on_port.link
 
-  matched : (channel.member ≡ at) × (channel.number ≡ number)
-  matched = h.connected.standing.channels.matched at number w.place channel live_there on.stands
+  live_there : HasLive (seen_of d).processes at number attached.port
+  live_there = subst (λ (p : Port). HasLive (seen_of d).processes at number p) (sym on.on_port.port_is) live
+
+  matched : (channel.member ≡ at) × (attached.number ≡ number)
+  matched = h.connected.standing.channels.matched at number w.place channel attached on.stands on.on_port.link_is live_there
 
   module _ (told : Took) (ps : List IpcProcess) (fs : Flows) (cs : Connections) (t : HasTaken d lines links below at since port hop told (record d { processes = ps; flows = fs; connections = cs })) where
     abbrev mid : Dif
@@ -114,7 +124,7 @@ module _ (d : Dif) (at number since : ℕ) (port : Port) (hop : Hop) (lines : Li
     piece = took_piece told taken_on.dropped m' t.connected.lines taken_on.takes
 
     -- the link is live still
-    on_live : (process : Process) (offs : List Off) → slice_get (seen_of d).processes at ≡ Some process → HasLive (with_process (seen_of d) at (with_offs process offs)).processes at number channel.port
+    on_live : (process : Process) (offs : List Off) → slice_get (seen_of d).processes at ≡ Some process → HasLive (with_process (seen_of d) at (with_offs process offs)).processes at number attached.port
     on_live process offs is =
         let same : live_there.process ≡ process = same_Some live_there.process process (sym live_there.is_process ∙ is) in
         record {
@@ -128,13 +138,13 @@ module _ (d : Dif) (at number since : ℕ) (port : Port) (hop : Hop) (lines : Li
           port_is = live_there.port_is;
         }
 
-    still_live : HasLive (seen_of mid).processes at number channel.port
+    still_live : HasLive (seen_of mid).processes at number attached.port
     still_live =
         let p = has_process d below at (lines, h) lt in
         let here = is_here d at p.0 lt p.1 in
         elim (t.settled here.member (process_of p.0) here.process) [
           | inl flow ↦ absurd (flow.0 ahead.takes.for_link.0 ahead.takes.for_link.1)
-          | inr own ↦ subst (λ (z : DifSeen). HasLive z.processes at number channel.port) (sym own.new_is) (on_live (process_of p.0) (own.dropped ++ lines_for hop.pdu (cause_told told)) here.process.is_process)
+          | inr own ↦ subst (λ (z : DifSeen). HasLive z.processes at number attached.port) (sym own.new_is) (on_live (process_of p.0) (own.dropped ++ lines_for hop.pdu (cause_told told)) here.process.is_process)
         ]
 
     -- what came is handled
@@ -166,8 +176,12 @@ module _ (d : Dif) (at number since : ℕ) (port : Port) (hop : Hop) (lines : Li
       channel = channel;
       stands = ap (λ (z : ChannelsSeen). slice_get z.channels w.place) piece.1.new_is ∙ on.stands;
       member = matched.0;
+      live = record {
+        link = attached;
+        link_is = on.on_port.link_is;
+        live = subst (λ (i : ℕ). HasLive (seen_of mid).processes i attached.number attached.port) (sym matched.0) (subst (λ (n : ℕ). HasLive (seen_of mid).processes at n attached.port) (sym matched.1) still_live);
+      };
       number_is = sym matched.1;
-      live = subst (λ (i : ℕ). HasLive (seen_of mid).processes i channel.number channel.port) (sym matched.0) (subst (λ (n : ℕ). HasLive (seen_of mid).processes at n channel.port) (sym matched.1) still_live);
       end = its_end;
       is_end = end_there;
       allocated = on.takes.allocated;
@@ -180,6 +194,7 @@ module _ (d : Dif) (at number since : ℕ) (port : Port) (hop : Hop) (lines : Li
           subst (λ (x : Management). HandlesInTurn d.clock number (unpassed_sdus e) x w.management) (same_Some agent.0 g (sym agent.1 ∙ is_g))
           (subst (λ (x : End). HandlesInTurn d.clock number (unpassed_sdus x) agent.0 w.management) (same_Some its_end e (sym end_there ∙ is_e)) turns);
       routes = ahead.routes;
+      enrolled = tells_on d mid at w.management w.enrolled refl refl ahead.enrolled;
     }
 
 -- where there was something to handle

@@ -262,7 +262,7 @@ ins_none d lines below i n (Ok (in_.Took key end)) d' lines' below' s = settles_
 ins_none d lines below i n (Err Memory) d' lines' below' s = none_is d d' s.0
 ins_none d lines below i n (Err NoIpc) d' lines' below' s = none_is d d' s.1
 ins_none d lines below i n (Err NoLink) d' lines' below' s = none_is d d' s.1
-ins_none d lines below i n (Err (CountSpent need left)) d' lines' below' s = absurd s
+ins_none d lines below i n (Err (CountSpent need left)) d' lines' below' s = none_is d d' s.0
 
 pub ins_lower : (g : Config) (d : DifSeen) (lines : List Direction) (below : Seen) (i n : ℕ) (r : Result InStep StepError) (d' : DifSeen) (lines' : List Direction) (below' : Seen) → AreKept below' → Ins d lines below i n r d' lines' below' → LowerStays g below below'
 ins_lower g d lines below i n (Ok in_.Idle) d' lines' below' kept s = lower_same g below below' s.3
@@ -270,7 +270,7 @@ ins_lower g d lines below i n (Ok (in_.Took key end)) d' lines' below' kept s = 
 ins_lower g d lines below i n (Err Memory) d' lines' below' kept s = lower_same g below below' s.2
 ins_lower g d lines below i n (Err NoIpc) d' lines' below' kept s = lower_same g below below' s.3
 ins_lower g d lines below i n (Err NoLink) d' lines' below' kept s = lower_same g below below' s.3
-ins_lower g d lines below i n (Err (CountSpent need left)) d' lines' below' kept s = absurd s
+ins_lower g d lines below i n (Err (CountSpent need left)) d' lines' below' kept s = lower_same g below below' s.2
 
 pub ins_caused : (d : DifSeen) (lines : List Direction) (below : Seen) (i n : ℕ) (r : Result InStep StepError) (d' : DifSeen) (lines' : List Direction) (below' : Seen) → AreKept below' → AreCaused d below → Ins d lines below i n r d' lines' below' → AreCaused d' below'
 ins_caused d lines below i n r d' lines' below' kept c s = caused_on d d' below below' (ins_none d lines below i n r d' lines' below' s) (ins_lower d.config d lines below i n r d' lines' below' kept s) c

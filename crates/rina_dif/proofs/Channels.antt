@@ -56,7 +56,7 @@ never_off s ps port member p links has home is same none =
     let on : is_on port of.link ≡ true = subst (λ (q : Port). is_on q of.link ≡ true) of.on_port (on_self of.link) in
     none_some (position (is_on port) links) none (passes_some (is_on port) links of.place of.link stands on)
 
-pub is_channel : (s : Settings) (ps : List IpcProcess) (port : Port) (partner member : ℕ) (p : IpcProcess) (links : List Link) (at : ℕ) (d : Link) → position (λ (m : Kept). m.node == port.node) s.members ≡ Some member → slice_get ps member ≡ Some p → links ≡ p.links → position (is_on port) links ≡ Some at → IsChannelOf s ps port partner (record { member = member; number = (slice_index_or links at d).number; port = port; partner = partner })
+pub is_channel : (s : Settings) (ps : List IpcProcess) (port : Port) (partner member : ℕ) (p : IpcProcess) (links : List Link) (at : ℕ) (d : Link) → position (λ (m : Kept). m.node == port.node) s.members ≡ Some member → slice_get ps member ≡ Some p → links ≡ p.links → position (is_on port) links ≡ Some at → IsChannelOf s ps port partner (record { member = member; link = Some (record { number = (slice_index_or links at d).number; port = port }); partner = partner })
 is_channel s ps port partner member p links at d home is same found =
     let first = first_passes (is_on port) links at found in
     record {
@@ -67,8 +67,7 @@ is_channel s ps port partner member p links at d home is same found =
       link = first.0;
       stands = ap (λ (ls : List Link). slice_get ls at) (sym same) ∙ first.1.stands;
       on_port = on_is port first.0 first.1.passes;
-      number_is = ap (λ (l : Link). l.number) (get_or_from_slice_get links at first.0 d first.1.stands);
-      port_is = refl;
+      attached = ap (λ (l : Link). Some (record { number = l.number; port = port })) (get_or_from_slice_get links at first.0 d first.1.stands);
       partner_is = refl;
     }
 
@@ -110,7 +109,7 @@ channel_on s clock ports ps below k port links home is =
     let its = (links.up.each at.0 m.0 p.0 m.1.stands p.1).links in
     let j = filtered (λ (z : Port). z.node == m.0.node) (ends_of ports) k port is (at_node m.0.node port (sym (node_of port.node m.0 m.1.passes))) in
     let l = linked_at 0 (ports_at m.0.node (ends_of ports)) j.0 port j.1 in (
-      record { member = at.0; number = l.0.number; port = port; partner = 0 },
+      record { member = at.0; link = Some (record { number = l.0.number; port = port }); partner = 0 },
       record {
         home = at.1;
         process = p.0;
@@ -119,8 +118,7 @@ channel_on s clock ports ps below k port links home is =
         link = l.0;
         stands = ap (λ (ls : List Link). slice_get ls j.0) its ∙ l.1;
         on_port = l.2;
-        number_is = refl;
-        port_is = refl;
+        attached = refl;
         partner_is = refl;
       },
     )
@@ -148,7 +146,7 @@ push_two [] x y = refl
 push_two (z ∷ xs) x y = ap (λ (zs : List Channel). z ∷ zs) (push_two xs x y)
 
 pub connects : (s : Settings) (ps : List IpcProcess) (clock : ℕ) (pair : Port × Port) (c : Connections) (place partner : ℕ) (near far : Channel) (a b : Kept) (asker end : End) (piece max : ℕ) (peer : Peer) (channels : List Channel) (flows : Flows) (r : Result (Unit {0}) Memory) → place ≡ length c.channels → partner ≡ suc (length c.channels) → partner < 2 ^ 32 → IsChannelOf s ps pair.0 partner near → IsChannelOf s ps pair.1 place far
-    → asker ≡ new_end (name_at clock place) Asker near.port a.name b.name 0 Allocated → end ≡ new_end (name_at clock place) Far far.port b.name a.name 0 Allocated → piece ≡ piece_size (config_of s) → max ≡ greatest (config_of s) → peer ≡ record { own = place; far = partner; scep = 0; dcep = 0 } → channels ≡ (c.channels ++ near ∷ []) ++ far ∷ []
+    → asker ≡ new_end (name_at clock place) Asker pair.0 a.name b.name 0 Allocated → end ≡ new_end (name_at clock place) Far pair.1 b.name a.name 0 Allocated → piece ≡ piece_size (config_of s) → max ≡ greatest (config_of s) → peer ≡ record { own = place; far = partner; scep = 0; dcep = 0 } → channels ≡ (c.channels ++ near ∷ []) ++ far ∷ []
     → OnOk r (flows.journal.ends ≡ c.flows.journal.ends ++ asker ∷ end ∷ []) → OnOk r (Adds c.manage piece max peer asker end c.flows flows) → OnOk r (Connects s ps clock pair c (record { manage = c.manage; channels = channels; flows = flows }))
 connects s ps clock pair c place partner near far a b asker end piece max peer channels flows (Err e) place_is partner_is room is_near is_far asker_is end_is piece_is max_is peer_is channels_are ends adds = tt
 connects s ps clock pair c place partner near far a b asker end piece max peer channels flows (Ok u) place_is partner_is room is_near is_far asker_is end_is piece_is max_is peer_is channels_are ends adds =

@@ -22,6 +22,7 @@ use Rattle.rina_dif.specs.Facade.{GoesOn, IsShownAs, StaysStanding, shown_as}
 use Rattle.rina_dif.specs.Holding.{Holds}
 use Rattle.rina_dif.specs.Shown.{seen_of}
 use Rattle.rina_dif.specs.Whole.{IsDif}
+use Rattle.rina_dif.proofs.Enrolled.{stay_same}
 use Rattle.rina_dif.proofs.Facing.{unchanged}
 
 -- the end that waits at a place
@@ -109,7 +110,7 @@ claimed_goes_on d waiting is = (let f = fac_refl d.clock d.clock (fac_of (seen_o
   later = record { ends = f.ends; cubes = f.cubes };
   facility = facility (seen_of (with_waiting d waiting)) is.stands.0 is.below (holds_claimed d waiting is.stands.0 is.below is.stands.1).standing;
   clock = refl;
-  enrolled = refl;
+  enrolled = stay_same d.enrolled d.enrolled refl;
 })
 
 pub claims_none : (s : Seen) (n : ℕ) (d : Dif) (node : ℕ) (app : List ℕ) → oldest_in d.flows.journal.ends d.waiting.items node app ≡ None → IsShownAs s n d → Claims s n node app None (shown_as s n d)

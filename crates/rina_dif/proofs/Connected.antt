@@ -1,15 +1,16 @@
 -- The management connections of a DIF's links go on to stand.
-use Rattle.std.proofs.Common.{◌≡◌, ◌∙◌, ℕ, ◌-◌, ◌≤◌, List, [], ◌∷◌, length, map, slice_get, slice_set, option_map, Option, Some, Result, Ok, Err, refl, sym, ap, subst, arith, inl, inr}
+use Rattle.std.proofs.Common.{◌≡◌, ◌∙◌, ℕ, ◌-◌, ◌≤◌, Bool, List, [], ◌∷◌, length, map, slice_get, slice_set, option_map, Option, Some, Result, Ok, Err, refl, sym, ap, subst, arith, inl, inr}
 use Rattle.std.proofs.lemmas.List.{length-map}
 use Rattle.std.proofs.lemmas.Option.{slice_get-map, slice_get_within}
 use Rattle.rina_base.specs.declared.cause.Cause.{Cause}
 use Rattle.rina_base.specs.declared.cause.Cause.TheVariants as causes
 use Rattle.rina_base.specs.declared.memory.Memory.{Memory as NoMemory}
 use Rattle.rina_base.specs.declared.number.Port.{Port}
+use Rattle.rina_iface.specs.declared.ends.End.{End}
 use Rattle.rina_iface.specs.declared.error.SendError.{SendError}
 use Rattle.rina_iface.specs.Journal.{AreKept}
 use Rattle.rina_iface.specs.Pass.{IsPassed as PassesBelow}
-use Rattle.rina_iface.specs.Seen.{Seen}
+use Rattle.rina_iface.specs.Seen.{Seen, end_of}
 use Rattle.rina_law.specs.Direction.{Direction}
 use Rattle.rina_plan.specs.declared.dif.LinkPlan.{LinkPlan}
 use Rattle.rina_queue.specs.declared.queue.Queued.{Queued}
@@ -37,7 +38,8 @@ use Rattle.rina_channel.specs.Channels.{HasLive}
 use Rattle.rina_channel.specs.FlowLaws.{HasNoZero}
 use Rattle.rina_channel.specs.Names.{link_config}
 use Rattle.rina_channel.specs.Standing.{IsStanding}
-use Rattle.rina_channel.proofs.Frame.{FlowsGoOn, beside_stands, other_pdus_stand, still_stands, taking_stands, time_stands}
+use Rattle.rina_channel.proofs.Below.{EndsGoOn}
+use Rattle.rina_channel.proofs.Frame.{beside_stands, other_pdus_stand, still_stands, taking_stands, time_stands}
 use Rattle.rina_channel.proofs.Going.{outs_stand}
 use Rattle.rina_channel.proofs.LinkClouds.{leaves_refl}
 use Rattle.rina_channel.proofs.Linking.{none_stand}
@@ -80,7 +82,7 @@ later_connected g now now' c ps below below' le kept lifted clock h = record {
 pub beside_connected : (g : Config) (now : ℕ) (c : Connections) (ps : List Process) (below below' : Seen) → AreKept below' → IsLifted g below below' → below'.now ≡ below.now → AreConnected g now c ps below → AreConnected g now c ps below'
 beside_connected g now c ps below below' kept lifted clock h = record { may = h.may; lines = h.lines; tied = h.tied; standing = beside_stands (channels_seen g now c) h.lines ps below below' kept h.standing lifted clock; paired = h.paired; each = h.each }
 
-pub aside_connected : (g : Config) (now : ℕ) (c : Connections) (ps : List Process) (below below' : Seen) → IsAfter g NoMore below below' → FlowsGoOn g below below' → below'.now ≡ below.now → AreConnected g now c ps below → AreConnected g now c ps below'
+pub aside_connected : (g : Config) (now : ℕ) (c : Connections) (ps : List Process) (below below' : Seen) → IsAfter g NoMore below below' → EndsGoOn below below' → below'.now ≡ below.now → AreConnected g now c ps below → AreConnected g now c ps below'
 aside_connected g now c ps below below' after go clock h = record { may = h.may; lines = h.lines; tied = h.tied; standing = still_stands (channels_seen g now c) h.lines ps ps below below' h.standing (leaves_refl ps) after go clock; paired = h.paired; each = h.each }
 
 -- an SDU is taken from there
@@ -104,8 +106,8 @@ pub record StandSoFar (g : Config) (now : ℕ) (c : Connections) (ps : List Proc
   pub standing : IsStanding (channels_seen g now c) lines ps below
   pub paired : ArePaired c.channels
 
-pub none_so_far : (g : Config) (now : ℕ) (c : Connections) (ps : List Process) (below : Seen) → c.channels ≡ [] → c.flows.journal.ends ≡ [] → c.flows.conns ≡ [] → now ≡ below.now → CanManage g c.manage → ((i n : ℕ) (p q : Port) → HasLive ps i n p → HasLive ps i n q → p ≡ q) → StandSoFar g now c ps below
-none_so_far g now c ps below channels ends conns clock may numbered =
+pub none_so_far : (g : Config) (now : ℕ) (c : Connections) (ps : List Process) (below : Seen) → c.channels ≡ [] → c.flows.journal.ends ≡ [] → c.flows.conns ≡ [] → now ≡ below.now → CanManage g c.manage → ((i n : ℕ) (p q : Port) → HasLive ps i n p → HasLive ps i n q → p ≡ q) → ((i n : ℕ) (port : Port) → HasLive ps i n port → (end : End) × (end_of below port ≡ Some end)) → StandSoFar g now c ps below
+none_so_far g now c ps below channels ends conns clock may numbered based =
     let no_ends : length c.flows.journal.ends ≡ 0 = ap (λ es. length es) ends in
     let no_conns : length c.flows.conns ≡ 0 = ap (λ ks. length ks) conns in
     record {
@@ -117,14 +119,14 @@ none_so_far g now c ps below channels ends conns clock may numbered =
         sends = λ at conn line x l. absurd (none_in c.flows.conns at conn conns x);
         receives = λ at from end conn line is allocated inbound. absurd (none_in c.flows.conns at conn conns is.conn_is);
       };
-      standing = none_stand (channels_seen g now c) [] ps below (record { managed = may.managed; clock = clock; channels = channels; ends = ends; ids = ap conns_of conns; lines_are = refl; numbered = numbered });
+      standing = none_stand (channels_seen g now c) [] ps below (record { managed = may.managed; clock = clock; channels = channels; ends = ends; ids = ap conns_of conns; lines_are = refl; numbered = numbered; based = based });
       paired = λ l side channel is. absurd (none_in c.channels (end_place l side) channel channels is);
     }
 
 -- where there are no links
 pub none_connected : (g : Config) (now : ℕ) (c : Connections) (ps : List Process) (below : Seen) → c.channels ≡ [] → c.flows.journal.ends ≡ [] → c.flows.conns ≡ [] → now ≡ below.now → CanManage g c.manage → ((i n : ℕ) (port : Port) → HasLive ps i n port → ⊥) → AreConnected g now c ps below
 none_connected g now c ps below channels ends conns clock may none =
-    let s = none_so_far g now c ps below channels ends conns clock may (λ i n p q x y. absurd (none i n p x)) in
+    let s = none_so_far g now c ps below channels ends conns clock may (λ i n p q x y. absurd (none i n p x)) (λ i n port x. absurd (none i n port x)) in
     record { may = s.may; lines = s.lines; tied = s.tied; standing = s.standing; paired = s.paired; each = λ i n port live. absurd (none i n port live) }
 
 -- As an IPC process decides on a PDU that came
@@ -165,13 +167,13 @@ decides_leave cap now addr ps i p since hop (Ok (decision.Off (causes.LinkDown p
 decides_leave cap now addr ps i p since hop (Err e) p' is none s = same_leaves ps i p p' is s
 
 -- no next hop of a member leads to the address 0
-pub no_hop : (g : Config) (members : List Kept) (plans : List LinkPlan) (now : ℕ) (ps : List IpcProcess) (managements : List Management) (i : ℕ) (p : IpcProcess) → g.members ≡ map member_of members → length (map process_of ps) ≡ length g.members → HasNoZero g → AreManagedBy members plans now ps managements → slice_get ps i ≡ Some p → (link : ℕ) → next_hop 0 p.routes ≡ Some link → ⊥
-no_hop g members plans now ps managements i p are alike zero managed is link hop =
+pub no_hop : (g : Config) (is_static : Bool) (members : List Kept) (plans : List LinkPlan) (now : ℕ) (ps : List IpcProcess) (managements : List Management) (i : ℕ) (p : IpcProcess) → g.members ≡ map member_of members → length (map process_of ps) ≡ length g.members → HasNoZero g → AreManagedBy is_static members plans now ps managements → slice_get ps i ≡ Some p → (link : ℕ) → next_hop 0 p.routes ≡ Some link → ⊥
+no_hop g is_static members plans now ps managements i p are alike zero managed is link hop =
     let within = slice_get_within ps i p is in
     let shown = length-map ps process_of in
     let kept : length g.members ≡ length members = ap (λ ms. length ms) are ∙ length-map members member_of in
     let m = there members i (omega (arith, within, alike, shown, kept)) in
-    let hops = (routed_at members plans now ps managements i m.0 p managed m.1 is).1 in
+    let hops = (routed_at is_static members plans now ps managements i m.0 p managed m.1 is).2 in
     let to = to_member m.0.addr 0 link hops.rows members (ap (next_hop 0) (sym hops.are) ∙ hop) in
     let its : slice_get g.members to.0 ≡ Some (member_of to.1) = ap (λ ms. slice_get ms to.0) are ∙ slice_get-map member_of members to.0 ∙ ap (option_map member_of) to.2 in
     zero.members to.0 (member_of to.1) its to.3

@@ -1,8 +1,9 @@
 -- The links of a DIF that was made get their management connections.
-use Rattle.std.proofs.Common.{◌≡◌, ◌∙◌, ℕ, zero, suc, ◌+◌, ◌==◌, Bool, true, false, cond, List, [], ◌∷◌, filter, map, slice_get, option_map, Option, Some, refl, sym, ap, arith, inl, inr}
+use Rattle.std.proofs.Common.{◌≡◌, ◌∙◌, ◌⊎◌, ℕ, zero, suc, ◌+◌, ◌==◌, Bool, true, false, cond, List, [], ◌∷◌, filter, map, slice_get, option_map, Option, Some, refl, sym, ap, arith, inl, inr}
 use Rattle.std.proofs.lemmas.Option.{slice_get_within}
 use Rattle.rina_base.specs.declared.number.Port.{Port}
 use Rattle.rina_base.specs.declared.pdu.Pdu.{Pdu}
+use Rattle.rina_channel.specs.declared.channel.Attachment.{Attachment}
 use Rattle.rina_channel.specs.declared.channel.Channel.{Channel}
 use Rattle.rina_channel.specs.Channels.{HasLive}
 use Rattle.rina_channel.specs.LinkCloud.{IsOn}
@@ -68,7 +69,7 @@ module _ (s : Settings) (clock : ℕ) (ports : List (Port × Port)) (ps : List I
   all = ends_of ports
 
   -- the live link with the port of a channel is the link of the channel
-  pub channel_link : (port : Port) (partner : ℕ) (c : Channel) → IsChannelOf s ps port partner c → (i n : ℕ) → HasLive (map process_of ps) i n c.port → (c.member ≡ i) × (c.number ≡ n)
+  pub channel_link : (port : Port) (partner : ℕ) (c : Channel) (of : IsChannelOf s ps port partner c) (i n : ℕ) → HasLive (map process_of ps) i n port → (c.member ≡ i) × (of.link.number ≡ n)
   channel_link port partner c of i n x =
       let p = map_at process_of ps i x.process x.is_process in
       let m = there s.members i (let within = slice_get_within ps i p.0 p.1 in let alike = links.up.aligned in omega (arith, within, alike)) in
@@ -76,7 +77,7 @@ module _ (s : Settings) (clock : ℕ) (ports : List (Port × Port)) (ps : List I
       let its = (links.up.each i m.0 p.0 m.1 p.1).links in
       let live : slice_get (links_from 0 here) x.place ≡ Some x.link = ap (λ (ls : List Link). slice_get ls x.place) (sym its ∙ ap (λ (z : Process). z.links) p.2) ∙ x.stands in
       let on = link_on 0 here x.place x.link live in
-      let port_is : x.link.port ≡ port = x.port_is ∙ of.port_is in
+      let port_is : x.link.port ≡ port = x.port_is in
       let at = kept_at (λ (z : Port). z.node == m.0.node) all x.place x.link.port on in
       let node : port.node ≡ m.0.node = ap (λ (z : Port). z.node) (sym port_is) ∙ is_node m.0.node x.link.port at.1.passes in
       let home = first_passes (λ (z : Kept). z.node == port.node) s.members c.member of.home in
@@ -88,17 +89,19 @@ module _ (s : Settings) (clock : ℕ) (ports : List (Port × Port)) (ps : List I
       let second : slice_get here x.place ≡ Some port = on ∙ ap (λ (z : Port). Some z) port_is in
       let place : of.place ≡ x.place = filter_apart (λ (z : Port). z.node == m.0.node) all links.apart of.place x.place port first second in
       let link = same_some (slice_get (links_from 0 here) x.place) of.link x.link (ap (slice_get (links_from 0 here)) (sym place) ∙ own) live in
-      (member, of.number_is ∙ ap (λ (z : Link). z.number) link ∙ x.number_is)
+      (member, ap (λ (z : Link). z.number) link ∙ x.number_is)
     where
       is_kept : (node : ℕ) (z : Kept) → (z.node == node) ≡ true → z.node ≡ node
       is_kept node z h = grind arith
 
   -- nothing waits for it, and nothing was sent on it
-  pub silent : (c : Channel) (e : End) → end_of below c.port ≡ Some e → e.sent ≡ [] → (death : ℕ) (pdu : Pdu) → IsOn (config_of s) (map process_of ps) below c death pdu → ⊥
-  silent c e here unsent death pdu x = elim x [
+  pub silent : (c : Channel) (link : Attachment) (e : End) → c.link ≡ Some link → end_of below link.port ≡ Some e → e.sent ≡ [] → (death : ℕ) (pdu : Pdu) → IsOn (config_of s) (map process_of ps) below c death pdu → ⊥
+  silent c link e link_is here unsent death pdu x = elim (x.here) [
     | inl waits ↦ idle s all ps waits.1.process waits.1.link waits.1.item links.up waits.1.waits
     | inr way ↦
-        let same : way.end ≡ e = same_some (end_of below c.port) way.end e (ap (end_of below) (sym way.within) ∙ way.here) here in
+        let its : x.link ≡ link = same_some c.link x.link link x.link_is link_is in
+        let port_is : way.port ≡ link.port = way.within ∙ ap (λ (a : Attachment). a.port) its in
+        let same : way.end ≡ e = same_some (end_of below link.port) way.end e (ap (end_of below) (sym port_is) ∙ way.here) here in
         none_in e.sent way.at way.entry unsent (ap (λ (z : End). slice_get z.sent way.at) (sym same) ∙ way.is_entry)
   ]
 
@@ -121,3 +124,26 @@ numbered_up s ports ps up i n p q x y =
     let place : y.place ≡ x.place = omega (arith, number_x, number_y, is_x, is_y) in
     let same = same_some (slice_get of x.place) x.link y.link at_x (ap (slice_get of) (sym place) ∙ at_y) in
     sym x.port_is ∙ ap (λ (l : Link). l.port) same ∙ y.port_is
+
+-- each port is that of one end of a link
+of_pair : (ports : List (Port × Port)) (k : ℕ) (p : Port) → slice_get (ends_of ports) k ≡ Some p → (i : ℕ) × (pair : Port × Port) × (slice_get ports i ≡ Some pair) × ((pair.0 ≡ p) ⊎ (pair.1 ≡ p))
+of_pair [] k p is = absurd cc
+of_pair (pair ∷ ports) zero p is = (0, pair, refl, inl (same_some (Some p) pair.0 p (sym is) refl))
+of_pair (pair ∷ ports) (suc zero) p is = (0, pair, refl, inr (same_some (Some p) pair.1 p (sym is) refl))
+of_pair (pair ∷ ports) (suc (suc k)) p is = (let rest = of_pair ports k p is in (suc rest.0, rest.1, rest.2, rest.3))
+
+-- a live link has the port of an end below
+pub based_up : (s : Settings) (clock : ℕ) (ports : List (Port × Port)) (ps : List IpcProcess) (below : Seen) → AreLinks s clock ports ps below → (i n : ℕ) (port : Port) → HasLive (map process_of ps) i n port → (end : End) × (end_of below port ≡ Some end)
+based_up s clock ports ps below links i n port x =
+    let a = map_at process_of ps i x.process x.is_process in
+    let m = there s.members i (let within = slice_get_within ps i a.0 a.1 in let alike = links.up.aligned in omega (arith, within, alike)) in
+    let its = (links.up.each i m.0 a.0 m.1 a.1).links in
+    let here : List Port = ports_at m.0.node (ends_of ports) in
+    let stands : slice_get (links_from 0 here) x.place ≡ Some x.link = ap (λ (ls : List Link). slice_get ls x.place) (sym its ∙ ap (λ (z : Process). z.links) a.2) ∙ x.stands in
+    let at = kept_at (λ (z : Port). z.node == m.0.node) (ends_of ports) x.place x.link.port (link_on 0 here x.place x.link stands) in
+    let of = of_pair ports at.0 x.link.port at.1.stands in
+    let flow = (links.flows of.0 of.1 of.2).flow in
+    elim (of.3) [
+      | inl same ↦ (flow.near_end, ap (end_of below) (sym (same ∙ x.port_is)) ∙ flow.is_near)
+      | inr same ↦ (flow.far_end, ap (end_of below) (sym (same ∙ x.port_is)) ∙ flow.is_far)
+    ]

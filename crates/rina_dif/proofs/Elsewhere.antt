@@ -225,7 +225,7 @@ pub in_took : (key key' : Key) (end : Took) (d d' : Dif) (o : Option ℕ) → ke
 in_took key key' end d d' o same h = subst (λ (k : Key). ChangesOnly (IsTaker d o k) o d d') (sym same) h
 
 -- the IPC process handled messages of management besides
-pub in_handled : (done : InStep) (d mid d' : Dif) (at : ℕ) → ChangesOnly (MayTake (Ok done) d (Some at)) (Some at) d mid → d' ≡ record mid { processes = d'.processes; connections = record mid.connections { flows = d'.connections.flows }; managements = d'.managements } → ChangesProcess (Some at) mid.processes d'.processes → ChangesOnly (MayTake (Ok done) d (Some at)) (Some at) d d'
+pub in_handled : (done : InStep) (d mid d' : Dif) (at : ℕ) → ChangesOnly (MayTake (Ok done) d (Some at)) (Some at) d mid → d' ≡ record mid { processes = d'.processes; connections = record mid.connections { flows = d'.connections.flows }; managements = d'.managements; enrolled = d'.enrolled } → ChangesProcess (Some at) mid.processes d'.processes → ChangesOnly (MayTake (Ok done) d (Some at)) (Some at) d d'
 in_handled done d mid d' at first whole then = (
   subst (λ (flows : Flows). ChangesAt (MayTake (Ok done) d (Some at)) d.flows flows) (sym (ap (λ (z : Dif). z.flows) whole)) first.0,
   (λ i other. then.0 i other ∙ first.1.0 i other, then.1 ∙ first.1.1),

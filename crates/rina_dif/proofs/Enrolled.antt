@@ -1,15 +1,21 @@
 -- Which members of a DIF are enrolled: who they are from the start, that they stay so, and where they are.
-use Rattle.std.proofs.Common.{◌≡◌, ◌∙◌, ℕ, suc, ◌<◌, ◌==◌, ◌||◌, Bool, true, false, cond, List, [], ◌∷◌, filter, length, map, slice_get, slice_set, Option, Some, None, option_map, refl, sym, ap, subst, inl, inr, arith}
+use Rattle.std.proofs.Common.{◌≡◌, ◌∙◌, ℕ, zero, suc, ◌+◌, ◌<◌, ◌==◌, ◌||◌, Bool, true, false, cond, List, [], ◌∷◌, ◌++◌, append-nil, filter, length, map, slice_get, slice_set, take, Option, Some, None, Result, Ok, Err, option_map, refl, sym, ap, subst, inl, inr, arith}
 use Rattle.std.specs.Prelude.{All}
 use Rattle.std.specs.List.{cons_option, list_any}
 use Rattle.std.proofs.lemmas.Bool.{cases_Bool, eq-eqb, eqb-true, false≢true}
 use Rattle.std.proofs.lemmas.List.{map-set}
+use Rattle.std.proofs.lemmas.List.Elements.{All-set}
 use Rattle.std.proofs.lemmas.Option.{none-some, same_Some, slice_get-map, slice_get_within}
 use Rattle.rina_agent.specs.declared.agent.Agent.{Agent}
+use Rattle.rina_agent.specs.declared.state.AgentError.{AgentError}
 use Rattle.rina_agent.specs.declared.state.MemberState.{MemberState}
 use Rattle.rina_agent.specs.declared.state.MemberState.TheVariants.{Outside, Joining, Enrolled, Denied}
+use Rattle.rina_agent.specs.Counts.{spent, unless}
+use Rattle.rina_agent.specs.Items.{stated}
+use Rattle.rina_agent.specs.Rows.{dropped, lost, lost_state}
 use Rattle.rina_access.specs.declared.rules.Rule.{Rule}
 use Rattle.rina_cube.specs.declared.Cube.{Cube}
+use Rattle.rina_flood.specs.Network.{is_in}
 use Rattle.rina_iface.specs.Seen.{Seen, is_member}
 use Rattle.rina_iface.proofs.Changed.{all_at, slice_set-same}
 use Rattle.rina_law.specs.Direction.{Direction}
@@ -32,7 +38,7 @@ use Rattle.rina_dif.specs.Changing.{MayHaveEntered}
 use Rattle.rina_dif.specs.Elsewhere.{enrolled_home, home_of}
 use Rattle.rina_dif.specs.Facade.{IsStateAt}
 use Rattle.rina_dif.specs.Holding.{Holds}
-use Rattle.rina_dif.specs.Managing.{AreEnrolledBy, AreStarted, agents_of, enrolled_nodes, node_if_enrolled, states_of}
+use Rattle.rina_dif.specs.Managing.{AreEnrolled, AreEnrolledBy, AreStarted, StayEnrolled, agents_of, enrolled_nodes, node_if_enrolled, nodes_with, states_of}
 
 -- States
 
@@ -84,6 +90,148 @@ all_are d lines below h some k g is = go d.laid.is_static refl
     go : (b : Bool) → d.laid.is_static ≡ b → g.agent.state ≡ Enrolled
     go true still = all_at (λ (s : MemberState). s ≡ Enrolled) (states_of d.managements) k g.agent.state (h.enrolled.all still) (state_at d.managements k g is)
     go false still = (let none = h.enrolled.unfixed still in absurd (omega (arith, none, some)))
+
+-- whoever is enrolled stays so where nobody changes
+pub stay_same : (old new : List ℕ) → new ≡ old → StayEnrolled old new
+stay_same old new same = λ node there. subst (λ (ns : List ℕ). is_member ns node ≡ true) (sym same) there
+
+-- The member at a place has another state
+
+abbrev node_if : Bool → ℕ → Option ℕ
+node_if b node = cond b (Some node) None
+
+-- it is enrolled exactly as before
+pub nodes_kept : (members : List Kept) (states : List MemberState) (at : ℕ) (s s' : MemberState) → slice_get states at ≡ Some s → is_in s' ≡ is_in s → enrolled_nodes members (slice_set states at s') ≡ enrolled_nodes members states
+nodes_kept [] states at s s' is same = refl
+nodes_kept (m ∷ ms) [] at s s' is same = absurd (none-some s is)
+nodes_kept (m ∷ ms) (x ∷ xs) zero s s' is same = ap (λ (b : Bool). cons_option (node_if b m.node) (enrolled_nodes ms xs)) (same ∙ ap is_in (sym (same_Some x s is)))
+nodes_kept (m ∷ ms) (x ∷ xs) (suc k) s s' is same = ap (λ (ns : List ℕ). cons_option (node_if_enrolled (m, x)) ns) (nodes_kept ms xs k s s' is same)
+
+in_enrolled : (s : MemberState) → is_in s ≡ true → s ≡ Enrolled
+in_enrolled Outside is = absurd (false≢true is)
+in_enrolled (Joining link) is = absurd (false≢true is)
+in_enrolled Enrolled is = refl
+in_enrolled (Denied rule) is = absurd (false≢true is)
+
+-- one member after the other
+cons_behind : (o : Option ℕ) (xs ys : List ℕ) → cons_option o (xs ++ ys) ≡ cons_option o xs ++ ys
+cons_behind (Some n) xs ys = refl
+cons_behind None xs ys = refl
+
+one_node : (b : Bool) (n : ℕ) → cons_option (node_if b n) [] ≡ cond b (n ∷ []) []
+one_node true n = refl
+one_node false n = refl
+
+pub nodes_step : (members : List Kept) (states : List MemberState) (n : ℕ) (m : Kept) (s : MemberState) → slice_get members n ≡ Some m → slice_get states n ≡ Some s → enrolled_nodes (take (suc n) members) states ≡ enrolled_nodes (take n members) states ++ cond (is_in s) (m.node ∷ []) []
+nodes_step [] states n m s is_m is_s = absurd (none-some m is_m)
+nodes_step (x ∷ xs) [] n m s is_m is_s = absurd (none-some s is_s)
+nodes_step (x ∷ xs) (y ∷ ys) zero m s is_m is_s =
+    one_node (is_in y) x.node ∙ (λ j. cond (is_in (same_Some y s is_s j)) ((same_Some x m is_m j).node ∷ []) [])
+nodes_step (x ∷ xs) (y ∷ ys) (suc k) m s is_m is_s =
+    ap (λ (ns : List ℕ). cons_option (node_if_enrolled (x, y)) ns) (nodes_step xs ys k m s is_m is_s)
+    ∙ cons_behind (node_if_enrolled (x, y)) (enrolled_nodes (take k xs) ys) (cond (is_in s) (m.node ∷ []) [])
+
+-- or it is enrolled now, if it was
+or_there : (b c : Bool) → c ≡ true → (b || c) ≡ true
+or_there true c is = refl
+or_there false c is = is
+
+or_grows : (b c c' : Bool) → (c ≡ true → c' ≡ true) → (b || c) ≡ true → (b || c') ≡ true
+or_grows true c c' f is = refl
+or_grows false c c' f is = f is
+
+first_grows : (b b' : Bool) (n : ℕ) (rest : List ℕ) (node : ℕ) → (b ≡ true → b' ≡ true) → is_member (cons_option (node_if b n) rest) node ≡ true → is_member (cons_option (node_if b' n) rest) node ≡ true
+first_grows true true n rest node f is = is
+first_grows true false n rest node f is = absurd (false≢true (f refl))
+first_grows false true n rest node f is = or_there (n == node) (is_member rest node) is
+first_grows false false n rest node f is = is
+
+rest_grows : (o : Option ℕ) (rest rest' : List ℕ) (node : ℕ) → (is_member rest node ≡ true → is_member rest' node ≡ true) → is_member (cons_option o rest) node ≡ true → is_member (cons_option o rest') node ≡ true
+rest_grows (Some n) rest rest' node f is = or_grows (n == node) (is_member rest node) (is_member rest' node) f is
+rest_grows None rest rest' node f is = f is
+
+pub nodes_grow : (members : List Kept) (states : List MemberState) (at : ℕ) (s s' : MemberState) → slice_get states at ≡ Some s → (is_in s ≡ true → is_in s' ≡ true) → StayEnrolled (enrolled_nodes members states) (enrolled_nodes members (slice_set states at s'))
+nodes_grow [] states at s s' is grows = λ node there. there
+nodes_grow (m ∷ ms) [] at s s' is grows = absurd (none-some s is)
+nodes_grow (m ∷ ms) (x ∷ xs) zero s s' is grows = λ node there. first_grows (is_in x) (is_in s') m.node (enrolled_nodes ms xs) node (λ was. grows (ap is_in (sym (same_Some x s is)) ∙ was)) there
+nodes_grow (m ∷ ms) (x ∷ xs) (suc k) s s' is grows = λ node there. rest_grows (node_if_enrolled (m, x)) (enrolled_nodes ms xs) (enrolled_nodes ms (slice_set xs k s')) node (nodes_grow ms xs k s s' is grows node) there
+
+-- the states are those before, but that of one
+states_put : (ms : List Management) (at : ℕ) (g' : Management) → states_of (slice_set ms at g') ≡ slice_set (states_of ms) at g'.agent.state
+states_put ms at g' = ap (λ (gs : List Agent). map state_in gs) (map-set agent_in ms at g') ∙ map-set state_in (agents_of ms) at g'.agent
+
+-- one member more is looked at
+pub pushed : (b : Bool) (n : ℕ) (nodes nodes' : List ℕ) → b ≡ true → nodes' ≡ nodes ++ n ∷ [] → nodes' ≡ nodes ++ cond b (n ∷ []) []
+pushed b n nodes nodes' is more = more ∙ ap (λ (c : Bool). nodes ++ cond c (n ∷ []) []) (sym is)
+
+pub unpushed : (b : Bool) (n : ℕ) (nodes nodes' : List ℕ) → b ≡ false → nodes' ≡ nodes → nodes' ≡ nodes ++ cond b (n ∷ []) []
+unpushed b n nodes nodes' is same = same ∙ sym (append-nil nodes) ∙ ap (λ (c : Bool). nodes ++ cond c (n ∷ []) []) (sym is)
+
+pub nodes_next : (members : List Kept) (ms : List Management) (n : ℕ) (m : Kept) (g : Management) (b : Bool) (nodes nodes' : List ℕ) → slice_get members n ≡ Some m → slice_get ms n ≡ Some g → b ≡ is_in g.agent.state → nodes ≡ enrolled_nodes (take n members) (states_of ms) → nodes' ≡ nodes ++ cond b (m.node ∷ []) [] → nodes' ≡ enrolled_nodes (take (n + 1) members) (states_of ms)
+nodes_next members ms n m g b nodes nodes' is_m is_g is so more =
+    let next : n + 1 ≡ suc n = omega arith in
+    more
+    ∙ (λ j. so j ++ cond (is j) (m.node ∷ []) [])
+    ∙ sym (nodes_step members (states_of ms) n m g.agent.state is_m (state_at ms n g is_g))
+    ∙ ap (λ (k : ℕ). enrolled_nodes (take k members) (states_of ms)) (sym next)
+
+-- so the nodes are those that the DIF knows
+pub nodes_stay : (d : Dif) (at : ℕ) (g after : Management) → AreEnrolled d → slice_get d.managements at ≡ Some g → is_in after.agent.state ≡ is_in g.agent.state → d.enrolled ≡ nodes_with d at after
+nodes_stay d at g after h is same =
+    h.known
+    ∙ sym (nodes_kept d.settings.members (states_of d.managements) at g.agent.state after.agent.state (state_at d.managements at g is) same)
+    ∙ ap (enrolled_nodes d.settings.members) (sym (states_put d.managements at after))
+
+-- or more
+pub nodes_more : (d : Dif) (at : ℕ) (g after : Management) → AreEnrolled d → slice_get d.managements at ≡ Some g → (g.agent.state ≡ Enrolled → after.agent.state ≡ Enrolled) → StayEnrolled d.enrolled (nodes_with d at after)
+nodes_more d at g after h is stays =
+    let put = ap (enrolled_nodes d.settings.members) (sym (states_put d.managements at after)) in
+    let grown = nodes_grow d.settings.members (states_of d.managements) at g.agent.state after.agent.state (state_at d.managements at g is) (λ was. ap is_in (stays (in_enrolled g.agent.state was))) in
+    λ node there. subst (λ (ns : List ℕ). is_member ns node ≡ true) put (grown node (subst (λ (ns : List ℕ). is_member ns node ≡ true) h.known there))
+
+-- and the DIF knows them
+pub enrolled_after : (d : Dif) (at : ℕ) (g after : Management) → AreEnrolled d → slice_get d.managements at ≡ Some g → (g.agent.state ≡ Enrolled → after.agent.state ≡ Enrolled) → AreEnrolledBy d.laid.is_static d.settings.members d.settings.admits (states_of (slice_set d.managements at after)) (nodes_with d at after)
+enrolled_after d at g after h is stays = record {
+  known = refl;
+  all = λ still.
+      let old = h.all still in
+      let own = stays (all_at (λ (s : MemberState). s ≡ Enrolled) (states_of d.managements) at g.agent.state old (state_at d.managements at g is)) in
+      subst (λ (ss : List MemberState). All (λ (s : MemberState). s ≡ Enrolled) ss) (sym (states_put d.managements at after)) (All-set (λ (s : MemberState). s ≡ Enrolled) (states_of d.managements) at after.agent.state own old);
+  unfixed = h.unfixed;
+}
+
+-- where it is enrolled exactly as before the DIF knows the same ones
+pub same_enrolled : (d : Dif) (at : ℕ) (g after : Management) → AreEnrolled d → slice_get d.managements at ≡ Some g → is_in after.agent.state ≡ is_in g.agent.state → (g.agent.state ≡ Enrolled → after.agent.state ≡ Enrolled) → AreEnrolledBy d.laid.is_static d.settings.members d.settings.admits (states_of (slice_set d.managements at after)) d.enrolled
+same_enrolled d at g after h is same stays =
+    subst (λ (ns : List ℕ). AreEnrolledBy d.laid.is_static d.settings.members d.settings.admits (states_of (slice_set d.managements at after)) ns) (sym (nodes_stay d at g after h is same)) (enrolled_after d at g after h is stays)
+
+-- A link is lost
+
+lost_joining : (b : Bool) (number : ℕ) → is_in (cond b Outside (Joining number)) ≡ false
+lost_joining true number = refl
+lost_joining false number = refl
+
+lost_state_in : (link : ℕ) (s : MemberState) → is_in (lost_state link s) ≡ is_in s
+lost_state_in link Outside = refl
+lost_state_in link (Joining number) = lost_joining (number == link) number
+lost_state_in link Enrolled = refl
+lost_state_in link (Denied rule) = refl
+
+abbrev SameIn : MemberState → Result Agent AgentError → Type 0
+SameIn s (Ok g) = is_in g.state ≡ is_in s
+SameIn s (Err e) = Unit {0}
+
+unless_in : (s : MemberState) (o : Option AgentError) (g : Agent) → is_in g.state ≡ is_in s → SameIn s (unless o g)
+unless_in s None g same = same
+unless_in s (Some e) g same = tt
+
+lost_by : (b : Bool) (o : Option AgentError) (g : Agent) (now link : ℕ) → SameIn g.state (cond b (unless o (dropped (stated (Some link) g now) link)) (Ok (dropped g link)))
+lost_by true o g now link = unless_in g.state o (dropped (stated (Some link) g now) link) (lost_state_in link g.state)
+lost_by false o g now link = lost_state_in link g.state
+
+-- a member is enrolled exactly as before
+pub lost_in : (now number : ℕ) (g g' : Agent) → lost g now number ≡ Ok g' → is_in g'.state ≡ is_in g.state
+lost_in now number g g' is = subst (SameIn g.state) is (lost_by _ (spent 1 g.last_count) g now number)
 
 -- Where they are
 

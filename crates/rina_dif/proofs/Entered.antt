@@ -1,5 +1,5 @@
 -- The members of a DIF take a directory entry one after the other. Where an allocation fails on the way, the agent of each is as before, or holds the entry.
-use Rattle.std.proofs.Common.{◌≡◌, ◌∙◌, ◌⊎◌, ℕ, ◌<◌, ◌≤◌, ◌^◌, zero, suc, take, drop, List, [], ◌∷◌, ◌++◌, length, map, slice_get, slice_set, Some, Result, Ok, Err, OnErr, option_map, refl, sym, ap, subst, arith, inl, inr, length-set}
+use Rattle.std.proofs.Common.{◌≡◌, ◌∙◌, ◌⊎◌, ℕ, Bool, ◌<◌, ◌≤◌, ◌^◌, zero, suc, take, drop, List, [], ◌∷◌, ◌++◌, length, map, slice_get, slice_set, Some, Result, Ok, Err, OnErr, option_map, refl, sym, ap, subst, arith, inl, inr, length-set}
 use Rattle.std.proofs.lemmas.List.{length-map}
 use Rattle.std.proofs.lemmas.Option.{same_Some, slice_get-map}
 use Rattle.rina_base.specs.declared.number.Port.{Port}
@@ -8,21 +8,22 @@ use Rattle.rina_iface.specs.declared.ask.Fixed.{Fixed}
 use Rattle.rina_iface.specs.declared.error.AllocateError.{AllocateError}
 use Rattle.rina_iface.proofs.Changed.{set_at}
 use Rattle.rina_agent.specs.declared.agent.Agent.{Agent}
-use Rattle.rina_agent.specs.declared.state.MemberState.TheVariants.{Enrolled}
 use Rattle.rina_plan.specs.declared.dif.LinkPlan.{LinkPlan}
 use Rattle.rina_data.specs.declared.process.IpcProcess.{IpcProcess}
 use Rattle.rina_data.specs.declared.settings.Member.{Member}
 use Rattle.rina_member.specs.declared.management.Management.{Management}
-use Rattle.rina_member.specs.Knowing.{AreRoutesOf, Knows}
+use Rattle.rina_member.specs.Knowing.{AreRoutesOf, IsPlanned, Knows}
 use Rattle.rina_member.specs.Managements.{MayHoldEntry, entered, entry_of, takes_item, with_flow}
-use Rattle.rina_member.proofs.Knowing.{enters_knowing, enters_routed}
+use Rattle.rina_member.proofs.Entering.{enters}
+use Rattle.rina_member.proofs.Knowing.{enters_routed}
+use Rattle.rina_member.proofs.Planned.{planned_links}
 use Rattle.rina_dif.specs.declared.dif.Dif.{Dif}
 use Rattle.rina_dif.specs.Changing.{BindsManaged, ManagesBind, MayHaveEntered, MayHoldFar, with_flow_at}
 use Rattle.rina_dif.specs.Elsewhere.{home_of}
 use Rattle.rina_dif.specs.Managing.{AreManagedBy, IsManaged, agents_of}
-use Rattle.rina_dif.specs.Telling.{TellsNeighbours}
+use Rattle.rina_member.specs.Short.{TellsNeighbours}
 use Rattle.rina_dif.proofs.Managed.{changed_agents, its_agent, same_some}
-use Rattle.rina_dif.proofs.Neighbours.{enters_near}
+use Rattle.rina_member.proofs.TellsNear.{enters_near}
 
 -- What each member then holds
 
@@ -50,21 +51,23 @@ all_entered app address old new same = record {
 }
 
 -- each is managed as before
-pub managed_entered : (members : List Member) (plans : List LinkPlan) (now : ℕ) (ps : List IpcProcess) (old new : List Management) (app : List ℕ) (address : ℕ) → app_at app ≡ Ok app → address < 2 ^ 32 → ((k : ℕ) (g : Management) → slice_get old k ≡ Some g → g.agent.state ≡ Enrolled) → AreManagedBy members plans now ps old → MayHaveEntered app address old new → AreManagedBy members plans now ps new
-managed_entered members plans now ps old new app address name small enrolled h may = record {
+pub managed_entered : (is_static : Bool) (members : List Member) (plans : List LinkPlan) (now : ℕ) (ps : List IpcProcess) (old new : List Management) (app : List ℕ) (address : ℕ) → app_at app ≡ Ok app → address < 2 ^ 32 → AreManagedBy is_static members plans now ps old → MayHaveEntered app address old new → AreManagedBy is_static members plans now ps new
+managed_entered is_static members plans now ps old new app address name small h may = record {
   laid_out = h.laid_out;
   aligned = may.aligned ∙ h.aligned;
   each = λ k m p g is_m is_p is_g.
       let was = its_agent members old k m h.aligned is_m in
-      let one : IsManaged members plans now m p was.0 = h.each k m p was.0 is_m is_p was.1 in
-      let managed : (a : Agent) → a ≡ g.agent → Knows members plans now m p.links a → AreRoutesOf a members p.routes → TellsNeighbours a → IsManaged members plans now m p g = λ a is knows routes tells. record {
-        knows = subst (λ (z : Agent). Knows members plans now m p.links z) is knows;
+      let one : IsManaged is_static members plans now m p was.0 = h.each k m p was.0 is_m is_p was.1 in
+      let managed : (a : Agent) → a ≡ g.agent → a.links ≡ was.0.agent.links → Knows now m p.links a → AreRoutesOf a members p.routes → TellsNeighbours a → IsManaged is_static members plans now m p g = λ a is same knows routes tells. record {
+        knows = subst (λ (z : Agent). Knows now m p.links z) is knows;
+        planned = λ still. subst (λ (z : Agent). IsPlanned members plans m p.links z) is (planned_links members plans m p.links was.0.agent a same (one.planned still));
+        bounded = one.bounded;
         routes = subst (λ (z : Agent). AreRoutesOf z members p.routes) is routes;
         tells = subst (λ (z : Agent). TellsNeighbours z) is tells;
       } in
       elim (may.each k was.0 g was.1 is_g) [
-        | inl same ↦ managed was.0.agent (sym same) one.knows one.routes one.tells
-        | inr took ↦ managed (takes_item was.0.agent (entry_of app address)) (sym took) (enters_knowing members plans now m p.links was.0.agent app address (enrolled k was.0 was.1) one.knows) (enters_routed members plans now m p.links was.0.agent p.routes app address one.knows one.routes) (enters_near app address was.0.agent name small one.tells)
+        | inl same ↦ managed was.0.agent (sym same) refl one.knows one.routes one.tells
+        | inr took ↦ managed (takes_item was.0.agent (entry_of app address)) (sym took) refl (enters now m p.links was.0.agent app address one.knows) (enters_routed now m p.links was.0.agent members p.routes app address one.knows one.routes) (enters_near app address was.0.agent name small one.tells)
       ];
 }
 

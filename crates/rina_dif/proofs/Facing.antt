@@ -54,6 +54,7 @@ use Rattle.rina_dif.specs.Sending.{SendsAt, SendsNowhere}
 use Rattle.rina_dif.specs.Sending as sent
 use Rattle.rina_dif.specs.Shown.{seen_of}
 use Rattle.rina_dif.specs.Whole.{IsDif}
+use Rattle.rina_dif.proofs.Enrolled.{stay_same}
 use Rattle.rina_dif.proofs.Barred.{line_there, refused_is, sender_refusal}
 
 pub rank_shows : RankShows
@@ -204,7 +205,7 @@ pub same_goes_on : (d d' : Dif) → IsDif d → seen_of d' ≡ seen_of d → Goe
 same_goes_on d d' is same = record {
   later = subst (λ (x : DifSeen). IsLaterFac d.clock x.clock (fac_of (seen_of d)) (fac_of x)) (sym same) (fac_refl d.clock d.clock (fac_of (seen_of d)));
   facility = subst IsFacility (sym same) (facility (seen_of d) is.stands.0 is.below is.stands.1.standing);
-  enrolled = ap (λ (z : DifSeen). z.enrolled) same;
+  enrolled = stay_same d.enrolled d'.enrolled (ap (λ (z : DifSeen). z.enrolled) same);
   clock = ap (λ (x : DifSeen). x.clock) same;
 }
 
@@ -241,7 +242,7 @@ sends_go_on d port sdu r d' is does enrolled = go (place_in port d.flows.journal
       later = offers_later (seen_of d) is.stands.0 is.below at x.parts r (seen_of d') x.lines' is.stands.1.standing x.offers;
       facility = facility (seen_of d') x.lines' is.below x.holds.standing;
       clock = clock_sent (seen_of d) is.stands.0 at x.parts r (seen_of d') x.lines' x.offers;
-      enrolled = enrolled;
+      enrolled = stay_same d.enrolled d'.enrolled enrolled;
     }
 
 -- An SDU is passed
@@ -281,7 +282,7 @@ passed_goes_on d at d' is does =
       later = passed_later (seen_of d) is.stands.0 at (seen_of d') x.lines' x.passed;
       facility = facility (seen_of d') x.lines' is.below x.holds.standing;
       clock = ap (λ (y : DifSeen). y.clock) x.passed.new_is;
-      enrolled = ap (λ (y : DifSeen). y.enrolled) x.passed.new_is;
+      enrolled = stay_same d.enrolled d'.enrolled (ap (λ (y : DifSeen). y.enrolled) x.passed.new_is);
     }
 
 -- A port that was never drawn

@@ -54,7 +54,7 @@ use Rattle.rina_member.specs.declared.management.Management.{Management}
 use Rattle.rina_member.specs.Managements.{entered, entry_of, takes_item}
 use Rattle.rina_dif.specs.declared.dif.Dif.{Dif}
 use Rattle.rina_dif.specs.Connected.{LinksAreConnected}
-use Rattle.rina_dif.specs.Flooding.{AreFlooding, handled_at, link_end, members_seen, offered_at, texts_of}
+use Rattle.rina_dif.specs.Flooding.{AreFlooding, handled_at, link_end, members_seen, offered_at, state_by, texts_of}
 use Rattle.rina_dif.specs.Managing.{AreManaged, agents_of}
 use Rattle.rina_dif.proofs.Bare.{map_at}
 
@@ -168,7 +168,8 @@ lost_floods d at number m p g g' place link managed each is_m is_p is_g stands l
     let c = each at number link.port (record { process = process_of p; is_process = shown; place = place; link = link; stands = stands; live = live; number_is = number_is; port_is = refl }) in
     let side = side_at c.place in
     let end : LinkEnd = record { member = at; state = There number } in
-    let end_is : link_end c.channel ≡ end = (λ i. record { member = c.member_is i; state = There (c.number_is i) }) in
+    let state : state_by c.channel.link ≡ There number = ap state_by c.attached_is ∙ ap (λ (k : ℕ). There k) c.number_is in
+    let end_is : link_end c.channel ≡ end = (λ i. record { member = c.member_is i; state = state i }) in
     let agent : slice_get (agents_of d.managements) at ≡ Some g.agent = slice_get-map (λ (z : Management). z.agent) d.managements at ∙ ap (option_map (λ (z : Management). z.agent)) is_g in
     let is_end : slice_get (map link_end d.connections.channels) (end_place side.0 side.1) ≡ Some end = ap (slice_get (map link_end d.connections.channels)) side.2 ∙ slice_get-map link_end d.connections.channels c.place ∙ ap (option_map link_end) c.is_channel ∙ ap (λ (e : LinkEnd). Some e) end_is in
     let event : LosesLinkAt (members_seen d) (members_seen new) = record {

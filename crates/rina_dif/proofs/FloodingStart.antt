@@ -5,7 +5,7 @@ use Rattle.std.proofs.lemmas.Option.{slice_get-map, slice_get_within}
 use Rattle.rina_access.specs.declared.rules.Rule.{Rule}
 use Rattle.rina_base.specs.declared.number.Port.{Port}
 use Rattle.rina_channel.specs.declared.channel.Channel.{Channel}
-use Rattle.rina_channel.specs.Channels.{HasLive}
+use Rattle.rina_channel.specs.Channels.{HasLive, IsOnPort}
 use Rattle.rina_cube.specs.declared.Cube.{Cube}
 use Rattle.rina_data.specs.declared.link.Link.{Link}
 use Rattle.rina_data.specs.declared.process.IpcProcess.{IpcProcess}
@@ -33,9 +33,9 @@ use Rattle.rina_dif.specs.declared.dif.Dif.{Dif}
 use Rattle.rina_dif.specs.declared.layout.Layout.{Layout}
 use Rattle.rina_dif.specs.Building.{AreBare}
 use Rattle.rina_dif.specs.Connected.{AreConnected}
-use Rattle.rina_dif.specs.Flooding.{AreFlooding, handled_at, link_end, members_seen, offered_at, texts_of}
+use Rattle.rina_dif.specs.Flooding.{AreFlooding, handled_at, link_end, members_seen, offered_at, state_by, texts_of}
 use Rattle.rina_dif.specs.Laying.{AreLaid, AreLinkedUp, ends_of, links_from, ports_at}
-use Rattle.rina_dif.specs.Linking.{HaveConnections, IsChannelOf}
+use Rattle.rina_dif.specs.Linking.{HaveConnections, IsChannelOf, port_of}
 use Rattle.rina_dif.specs.Managing.{AreStarted, agents_of}
 use Rattle.rina_dif.specs.Shown.{seen_of}
 use Rattle.rina_dif.proofs.Bare.{map_at}
@@ -71,8 +71,8 @@ module _ (d : Dif) (manage : Cube) (ports laid_ports : List (Port × Port)) (bel
   within_members i p is = (let lt = slice_get_within ps i p is in let aligned = up.aligned in omega (arith, lt, aligned))
 
   -- the link of a channel is live
-  live_channel : (x : Channel) → IsChannelOf d.settings ps x.port x.partner x → HasLive (map process_of ps) x.member x.number x.port
-  live_channel x of =
+  live_channel : (x : Channel) (port : Port) (of : IsChannelOf d.settings ps port x.partner x) → HasLive (map process_of ps) x.member of.link.number port
+  live_channel x port of =
       let m = there d.settings.members x.member (within_members x.member of.process of.is_process) in
       let its = (up.each x.member m.0 of.process m.1 of.is_process).links in
       record {
@@ -82,31 +82,45 @@ module _ (d : Dif) (manage : Cube) (ports laid_ports : List (Port × Port)) (bel
         link = of.link;
         stands = of.stands;
         live = are_live (ports_at m.0.node (ends_of laid_ports)) of.place of.link (ap (λ (ls : List Link). slice_get ls of.place) (sym its) ∙ of.stands);
-        number_is = sym of.number_is;
+        number_is = refl;
         port_is = of.on_port;
       }
+
+  -- each has one
+  its_port : (k : ℕ) (x : Channel) → slice_get d.connections.channels k ≡ Some x → (port : Port) × IsChannelOf d.settings ps port x.partner x
+  its_port k x is =
+      let mapped = slice_get-map port_of d.connections.channels k ∙ ap (option_map port_of) is in
+      let p = map_at (λ (z : Port). Some z) (ends_of ports) k (port_of x) (ap (λ (zs : List (Option Port)). slice_get zs k) (sym have.ports_are) ∙ mapped) in
+      (p.0, have.links k x p.0 is (sym p.2))
 
   pub are_ends : AreEnds d.settings.members (map link_end d.connections.channels)
   are_ends = record {
     within = λ k e is.
         let x = map_at link_end d.connections.channels k e is in
-        let of = have.links k x.0 x.1 in
+        let of = (its_port k x.0 x.1).1 in
         subst (λ (z : LinkEnd). z.member < length d.settings.members) x.2 (within_members x.0.member of.process of.is_process);
     apart = λ j k a b number is_a is_b member has too.
         let x = map_at link_end d.connections.channels j a is_a in
         let y = map_at link_end d.connections.channels k b is_b in
         let same_member : y.0.member ≡ x.0.member = ap (λ (z : LinkEnd). z.member) y.2 ∙ sym member ∙ sym (ap (λ (z : LinkEnd). z.member) x.2) in
-        let same_number : y.0.number ≡ x.0.number = there_is y.0.number number (ap (λ (z : LinkEnd). z.state) y.2 ∙ too) ∙ sym (there_is x.0.number number (ap (λ (z : LinkEnd). z.state) x.2 ∙ has)) in
-        let first = live_channel x.0 (have.links j x.0 x.1) in
-        let second : HasLive (map process_of ps) x.0.member x.0.number y.0.port = subst (λ (i : ℕ). HasLive (map process_of ps) i x.0.number y.0.port) same_member (subst (λ (n : ℕ). HasLive (map process_of ps) y.0.member n y.0.port) same_number (live_channel y.0 (have.links k y.0 y.1))) in
+        let p = its_port j x.0 x.1 in
+        let q = its_port k y.0 y.1 in
+        let nx : ℕ = p.1.link.number in
+        let ny : ℕ = q.1.link.number in
+        let is_x : nx ≡ number = there_is nx number (sym (ap state_by p.1.attached) ∙ ap (λ (z : LinkEnd). z.state) x.2 ∙ has) in
+        let is_y : ny ≡ number = there_is ny number (sym (ap state_by q.1.attached) ∙ ap (λ (z : LinkEnd). z.state) y.2 ∙ too) in
+        let first = live_channel x.0 p.0 p.1 in
+        let second : HasLive (map process_of ps) x.0.member nx q.0 = subst (λ (i : ℕ). HasLive (map process_of ps) i nx q.0) same_member (subst (λ (n : ℕ). HasLive (map process_of ps) y.0.member n q.0) (is_y ∙ sym is_x) (live_channel y.0 q.0 q.1)) in
         let channels = connected.standing.channels in
-        channels.apart j k x.0 y.0 x.1 y.1 (channels.numbered x.0.member x.0.number x.0.port y.0.port first second);
+        let on_x : IsOnPort x.0 q.0 = record { link = record { number = nx; port = p.0 }; link_is = p.1.attached; port_is = channels.numbered x.0.member nx p.0 q.0 first second } in
+        let on_y : IsOnPort y.0 q.0 = record { link = record { number = ny; port = q.0 }; link_is = q.1.attached; port_is = refl } in
+        channels.apart j k x.0 y.0 q.0 x.1 y.1 on_x on_y;
   }
 
 -- The DIF of a plan
 
 -- without ports there are no ends
-no_ends : (channels : List Channel) → map (λ (x : Channel). x.port) channels ≡ [] → map link_end channels ≡ []
+no_ends : (channels : List Channel) → map port_of channels ≡ [] → map link_end channels ≡ []
 no_ends [] none = refl
 no_ends (x ∷ channels) none = absurd cc
 
@@ -122,7 +136,7 @@ plan_first plan i dif d old new ports linked sound at laid so = record {
       let up = laid.up.each k m p.0 is_m p.1 in
       let one = so.each k m p.0 g.0 is_m p.1 g.1 in
       let its = ports_at m.node (ends_of ports) in
-      let all : length (edges_from d.settings.members m.node dif.links) ≤ length its = enough plan dif d.settings.members m.node dif.links ports old new laid.bound in
+      let all = enough plan i dif d.settings old new ports linked m.node sound at laid in
       let count = length_from 0 its in
       record {
         rules = one.access;
@@ -142,7 +156,7 @@ plan_floods start plan i dif d old new ports linked manage sound at out laid up 
     let ends = d.connections.flows.journal.ends in
     let run = start dif.is_static dif.links (members_seen d) (record {
       laid_out = out;
-      bare = λ dynamic. no_ends d.connections.channels (have.ports_are ∙ ap ends_of (no_ports plan i dif ports old new sound at laid.bound dynamic));
+      bare = λ dynamic. no_ends d.connections.channels (have.ports_are ∙ ap (λ (ps : List (Port × Port)). map (λ (z : Port). Some z) (ends_of ps)) (no_ports plan i dif ports old new sound at laid.bound dynamic));
       first = plan_first plan i dif d old new ports linked sound at laid so;
       ends = all;
       sent = λ place. none_offered ends place (λ k e is. (have.unused k e is).sent);

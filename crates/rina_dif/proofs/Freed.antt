@@ -63,6 +63,7 @@ use Rattle.rina_dif.specs.Holding.{Holds, Stands}
 use Rattle.rina_dif.specs.Shown.{seen_of}
 use Rattle.rina_dif.specs.Timely.{WithLedger}
 use Rattle.rina_dif.specs.Whole.{IsDif}
+use Rattle.rina_dif.proofs.Enrolled.{stay_same}
 use Rattle.rina_dif.proofs.Causing.{closed_caused, freed_caused}
 use Rattle.rina_dif.proofs.GivenBack.{gives_back, used_there}
 use Rattle.rina_dif.proofs.Facing.{unchanged}
@@ -413,7 +414,7 @@ freed_stays d port r d' does below st = (st.0, (left_at (place_in port d.flows.j
 pub freed_goes_on : (d : Dif) (port : Port) (r : Result (Unit {0}) FreeError) (d' : Dif) → IsDif d → FreesFor d port r d' → d'.enrolled ≡ d.enrolled → GoesOn d d'
 freed_goes_on d port r d' is does enrolled =
     let x = left_at (place_in port d.flows.journal.ends) d is.stands.0 is.below r d' (does is.stands.0 is.below is.stands.1) in
-    record { later = x.later; facility = facility (seen_of d') is.stands.0 is.below x.holds.standing; clock = x.clock; enrolled = enrolled }
+    record { later = x.later; facility = facility (seen_of d') is.stands.0 is.below x.holds.standing; clock = x.clock; enrolled = stay_same d.enrolled d'.enrolled enrolled }
 
 none_freed : (s : Seen) (d : Dif) (port : Port) → IsShownAs s port.fac d → place_in port d.flows.journal.ends ≡ None → free.refused s port ≡ Some errors.NoPort
 none_freed s d port h none = rw (h.here, none) refl

@@ -35,9 +35,12 @@ use Rattle.rina_flows.specs.declared.due.Item.TheVariants.{GiveUp}
 use Rattle.rina_flows.specs.Calls.{Tells}
 use Rattle.rina_flows.specs.Tied.{outward}
 use Rattle.rina_flows.proofs.Timed.{give_up_due}
+use Rattle.rina_channel.specs.declared.channel.Attachment.{Attachment}
 use Rattle.rina_channel.specs.declared.channel.Channel.{Channel}
 use Rattle.rina_channel.specs.Names.{link_config}
+use Rattle.rina_channel.proofs.Below.{end_by, on_link}
 use Rattle.rina_dif.specs.declared.dif.Dif.{Dif}
+use Rattle.rina_dif.specs.Connected.{channels_seen}
 use Rattle.rina_dif.specs.Holding.{LinksStand}
 use Rattle.rina_dif.specs.LinkDue.{IsLinkDue}
 
@@ -68,8 +71,17 @@ given_up_number d below i place number conn by links due is tells =
     ap (λ (z : GaveUp). z.num.seq) found.2 ∙ same_some (given_up c d.clock m) found.0 x.number found.1 now
 
 -- the port below of its link was drawn
-pub port_there : (d : Dif) (below : Seen) (place : ℕ) (channel : Channel) → LinksStand d below → slice_get d.connections.channels place ≡ Some channel → IsSome (end_of below channel.port)
-port_there d below place channel links stands = subst (λ o. IsSome o) (sym (links.standing.channels.joined place channel stands).flow.is_near) refl
+pub port_there : (d : Dif) (below : Seen) (place : ℕ) (channel : Channel) (a : Attachment) → LinksStand d below → slice_get d.connections.channels place ≡ Some channel → channel.link ≡ Some a → IsSome (end_of below a.port)
+port_there d below place channel a links stands attached =
+    let end = end_by (channels_seen (config_of d.settings) d.clock d.connections) below place channel a.port (links.standing.channels.joined place channel stands) (on_link channel a attached) in
+    subst (λ o. IsSome o) (sym end.1) refl
+
+-- and it has a link
+pub no_link : (d : Dif) (below : Seen) (i place number : ℕ) (channel : Channel) (links : LinksStand d below) → IsLinkDue GiveUp d links.lines i place number → slice_get d.connections.channels place ≡ Some channel → channel.link ≡ None → ⊥
+no_link d below i place number channel links due stands none =
+    let same : due.here.channel ≡ channel = same_some (slice_get d.connections.channels place) due.here.channel channel due.here.stands stands in
+    let is : Some due.here.live.link ≡ None = sym due.here.live.link_is ∙ ap (λ (z : Channel). z.link) same ∙ none in
+    cc
 
 pub no_channel : (d : Dif) (below : Seen) (i place number : ℕ) (links : LinksStand d below) → IsLinkDue GiveUp d links.lines i place number → length d.connections.channels ≤ place → ⊥
 no_channel d below i place number links due past = (let within = slice_get_within d.connections.channels place due.here.channel due.here.stands in omega (arith, within, past))
@@ -80,7 +92,7 @@ pub gives_up_link : (d : Dif) (lines : List Direction) (below below' : Seen) (i 
 gives_up_link d lines below below' i next num is kept kept' later links gives h =
     let f = gives links in (
       λ there. (ap (λ (item : Item). Some item) (sym is), gives there),
-      holds_freed d lines f.both below below' f.channel.port kept kept' later f.freed h,
+      holds_freed d lines f.both below below' f.attached.port kept kept' later f.freed h,
     )
 
 -- What is done below

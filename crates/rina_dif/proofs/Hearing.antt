@@ -27,7 +27,7 @@ use Rattle.rina_member.specs.declared.management.Management.{Management}
 use Rattle.rina_member.specs.Managements.{HandlesSdu, is_news}
 use Rattle.rina_dif.specs.declared.dif.Dif.{Dif}
 use Rattle.rina_dif.specs.Connected.{channels_seen}
-use Rattle.rina_dif.specs.Flooding.{handled_at, link_end, offered_at, texts_of}
+use Rattle.rina_dif.specs.Flooding.{handled_at, link_end, offered_at, state_by, texts_of}
 use Rattle.rina_dif.specs.Handling.{HandlesInTurn, HandlesOne, or_same}
 use Rattle.rina_dif.specs.Holding.{LinksStand}
 use Rattle.rina_dif.specs.LinkDue.{IsLinkEnd}
@@ -150,7 +150,8 @@ module _ (d : Dif) (i place number : ℕ) (here : IsLinkEnd d i place number) (g
 
   there : slice_get (map link_end d.connections.channels) (end_place l (other side)) ≡ Some its_end
   there =
-      let end_is : link_end here.channel ≡ its_end = (λ j. record { member = here.member j; state = There (sym here.number_is j) }) in
+      let state : state_by here.channel.link ≡ There number = ap state_by here.live.link_is ∙ ap (λ (k : ℕ). There k) (sym here.number_is) in
+      let end_is : link_end here.channel ≡ its_end = (λ j. record { member = here.member j; state = state j }) in
       ap (slice_get (map link_end d.connections.channels)) to_place ∙ slice_get-map link_end d.connections.channels place ∙ ap (option_map link_end) here.stands ∙ ap (λ (e : LinkEnd). Some e) end_is
 
   pub agent_at : slice_get (agents_of d.managements) i ≡ Some g.agent

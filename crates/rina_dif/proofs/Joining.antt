@@ -1,13 +1,14 @@
 -- One link after the other gets its management connection.
-use Rattle.std.proofs.Common.{◌≡◌, ◌≢◌, ◌∙◌, ◌⊎◌, ℕ, zero, suc, ◌*◌, ◌<◌, ◌≤◌, ◌^◌, ◌==◌, Bool, true, false, cond, eqb, List, [], ◌∷◌, ◌++◌, length, map, slice_get, take, option_map, Some, None, refl, sym, ap, subst, arith, inl, inr}
+use Rattle.std.proofs.Common.{◌≡◌, ◌≢◌, ◌∙◌, ◌⊎◌, ℕ, zero, suc, ◌*◌, ◌<◌, ◌≤◌, ◌^◌, ◌==◌, Bool, true, false, cond, eqb, List, [], ◌∷◌, ◌++◌, length, map, slice_get, take, Option, option_map, Some, None, refl, sym, ap, subst, arith, inl, inr}
 use Rattle.std.proofs.lemmas.Bool.Decides.{eqb_tells}
 use Rattle.std.proofs.lemmas.List.{length-map}
-use Rattle.std.proofs.lemmas.Option.{slice_get-map, slice_get_within}
+use Rattle.std.proofs.lemmas.Option.{same_Some, slice_get-map, slice_get_within}
 use Rattle.rina_base.specs.declared.number.FlowName.{FlowName}
 use Rattle.rina_base.specs.declared.number.Port.{Port}
+use Rattle.rina_channel.specs.declared.channel.Attachment.{Attachment}
 use Rattle.rina_channel.specs.declared.channel.Channel.{Channel}
-use Rattle.rina_channel.specs.Channels.{ChannelsSeen, IsFlowBelow}
-use Rattle.rina_channel.specs.Making.{AreMade, IsNewFlow}
+use Rattle.rina_channel.specs.Channels.{ChannelsSeen, IsOnPort, IsUnclaimed}
+use Rattle.rina_channel.specs.Making.{AreMade, IsNewFlow, IsNewLink}
 use Rattle.rina_channel.specs.Names.{link_config, names_at}
 use Rattle.rina_channel.proofs.Config.{same_size}
 use Rattle.rina_channel.proofs.Making.{made_stands}
@@ -15,7 +16,7 @@ use Rattle.rina_conn.specs.declared.form.Peer.{Peer}
 use Rattle.rina_cube.specs.declared.Cube.{Cube}
 use Rattle.rina_iface.specs.declared.ends.End.{End}
 use Rattle.rina_iface.specs.Journal.{At}
-use Rattle.rina_iface.specs.Seen.{Seen, end_of}
+use Rattle.rina_iface.specs.Seen.{Seen}
 use Rattle.rina_iface.proofs.Grown.{still_at}
 use Rattle.rina_law.specs.Direction.{Direction, start}
 use Rattle.rina_data.specs.declared.process.IpcProcess.{IpcProcess}
@@ -46,9 +47,9 @@ use Rattle.rina_member.specs.declared.management.Management.{Management}
 use Rattle.rina_plan.specs.declared.dif.DifPlan.{DifPlan}
 use Rattle.rina_stack.specs.declared.plan.Plan.{Plan}
 use Rattle.rina_stack.specs.Plan.{IsPlan}
-use Rattle.rina_dif.specs.Linking.{AreLinks, Connects, HaveConnections, IsChannelOf, IsConnected, IsOpen, StandOnLinks}
+use Rattle.rina_dif.specs.Linking.{AreLinks, Connects, HaveConnections, IsChannelOf, IsConnected, IsOpen, StandOnLinks, port_of}
 use Rattle.rina_dif.proofs.Connected.{StandSoFar, none_so_far}
-use Rattle.rina_dif.proofs.Connecting.{channel_link, numbered_up, silent}
+use Rattle.rina_dif.proofs.Connecting.{based_up, channel_link, numbered_up, silent}
 use Rattle.rina_dif.proofs.LinkFlows.{ends_push}
 use Rattle.rina_data.specs.declared.link.Link.{Link}
 use Rattle.rina_data.specs.Process.{Process}
@@ -87,6 +88,22 @@ map_push : {X Y : Type 0} (f : X → Y) (xs : List X) (x y : X) → map f (xs ++
 map_push f [] x y = refl
 map_push f (z ∷ xs) x y = ap (λ zs. f z ∷ zs) (map_push f xs x y)
 
+map_both : {X Y : Type 0} (f : X → Y) (xs : List X) (x y : X) → map f ((xs ++ x ∷ []) ++ y ∷ []) ≡ (map f xs ++ f x ∷ []) ++ f y ∷ []
+map_both f [] x y = refl
+map_both f (z ∷ xs) x y = ap (λ zs. f z ∷ zs) (map_both f xs x y)
+
+-- The port of a channel
+
+on_some : (c : Channel) (port : Port) → IsOnPort c port → port_of c ≡ Some port
+on_some c port on = ap (option_map (λ (a : Attachment). a.port)) on.link_is ∙ ap (λ (p : Port). Some p) on.port_is
+
+some_on : (o : Option Attachment) (port : Port) → option_map (λ (a : Attachment). a.port) o ≡ Some port → (a : Attachment) × (o ≡ Some a) × (a.port ≡ port)
+some_on None port is = absurd cc
+some_on (Some a) port is = (a, refl, cc)
+
+some_none : {X : Type 0} (x : X) (o : Option X) → Some x ≡ o → o ≡ None → ⊥
+some_none x o some none = cc
+
 -- What was made of the first links
 
 pub record AreMadeOf (s : Settings) (manage : Cube) (clock : ℕ) (ports : List (Port × Port)) (ps : List IpcProcess) (n : ℕ) (c : Connections) : Type 0 where
@@ -101,19 +118,21 @@ pub none_made : (s : Settings) (manage : Cube) (clock : ℕ) (ports : List (Port
 none_made s manage clock ports ps c manage_is channels ends conns can = record {
   have = record {
     manage_is = manage_is;
-    ports_are = ap (map (λ (x : Channel). x.port)) channels;
-    links = λ k x is. absurd (none_at c.channels k x channels is);
+    ports_are = ap (map port_of) channels;
+    links = λ k x port is has. absurd (none_at c.channels k x channels is);
     alike = ap (λ (es : List End). length es) ends ∙ ap (λ (xs : List Channel). length xs) (sym channels);
     unused = λ k e is. absurd (none_at c.flows.journal.ends k e ends is);
   };
   named = λ k e is. absurd (none_at c.flows.journal.ends k e ends is);
-  stand = λ below links. none_so_far (config_of s) clock c (map process_of ps) below channels ends conns links.clock_is (subst (CanManage (config_of s)) (sym manage_is) can) (numbered_up s (ends_of ports) ps links.up);
+  stand = λ below links. none_so_far (config_of s) clock c (map process_of ps) below channels ends conns links.clock_is (subst (CanManage (config_of s)) (sym manage_is) can) (numbered_up s (ends_of ports) ps links.up) (based_up s clock ports ps below links);
 }
 
 -- The next one
 
-its_own : (s : Settings) (ps : List IpcProcess) (port : Port) (partner : ℕ) (c : Channel) → IsChannelOf s ps port partner c → IsChannelOf s ps c.port c.partner c
-its_own s ps port partner c of = subst (λ (p : Port). IsChannelOf s ps p c.partner c) (sym of.port_is) (subst (λ (n : ℕ). IsChannelOf s ps port n c) (sym of.partner_is) of)
+its_own : (s : Settings) (ps : List IpcProcess) (port other : Port) (partner : ℕ) (c : Channel) → IsChannelOf s ps port partner c → port_of c ≡ Some other → IsChannelOf s ps other c.partner c
+its_own s ps port other partner c of has =
+    let same : port ≡ other = same_Some port other (sym (ap (option_map (λ (a : Attachment). a.port)) of.attached) ∙ has) in
+    subst (λ (p : Port). IsChannelOf s ps p c.partner c) same (subst (λ (n : ℕ). IsChannelOf s ps port n c) (sym of.partner_is) of)
 
 by_eq : (manage : Cube) (b : Bool) → b ≡ true → cond b (Some manage) None ≡ Some manage
 by_eq manage true h = refl
@@ -140,12 +159,14 @@ module _ (s : Settings) (manage : Cube) (clock : ℕ) (ports : List (Port × Por
     manage_is = x.manage_is ∙ made.have.manage_is;
     ports_are =
         let two : ends_of (take (suc i) ports) ≡ (ends_of (take i ports) ++ pair.0 ∷ []) ++ pair.1 ∷ [] = ap ends_of (take_push ports i pair is) ∙ ends_push (take i ports) pair.0 pair.1 in
-        let near : Port → Port → List Port = λ a b. (map (λ (z : Channel). z.port) c.channels ++ a ∷ []) ++ b ∷ [] in
-        ap (map (λ (z : Channel). z.port)) x.channels_are ∙ map_push (λ (z : Channel). z.port) c.channels x.near x.far ∙ (λ j. near (x.is_near.port_is j) (x.is_far.port_is j)) ∙ ap (λ (zs : List Port). (zs ++ pair.0 ∷ []) ++ pair.1 ∷ []) made.have.ports_are ∙ sym two;
-    links = λ k z h. elim (two_at c.channels x.near x.far k z (ap (λ (zs : List Channel). slice_get zs k) (sym x.channels_are) ∙ h)) [
-      | inl old ↦ made.have.links k z old
-      | inr (inl t) ↦ subst (λ (y : Channel). IsChannelOf s ps y.port y.partner y) (sym t.1) (its_own s ps pair.0 (suc x.place) x.near x.is_near)
-      | inr (inr t) ↦ subst (λ (y : Channel). IsChannelOf s ps y.port y.partner y) (sym t.1) (its_own s ps pair.1 x.place x.far x.is_far)
+        let near : Option Port → Option Port → List (Option Port) = λ a b. (map port_of c.channels ++ a ∷ []) ++ b ∷ [] in
+        let first : port_of x.near ≡ Some pair.0 = ap (option_map (λ (a : Attachment). a.port)) x.is_near.attached in
+        let second : port_of x.far ≡ Some pair.1 = ap (option_map (λ (a : Attachment). a.port)) x.is_far.attached in
+        ap (map port_of) x.channels_are ∙ map_push port_of c.channels x.near x.far ∙ (λ j. near (first j) (second j)) ∙ ap (λ (zs : List (Option Port)). (zs ++ Some pair.0 ∷ []) ++ Some pair.1 ∷ []) made.have.ports_are ∙ sym (map_both (λ (p : Port). Some p) (ends_of (take i ports)) pair.0 pair.1) ∙ ap (map (λ (p : Port). Some p)) (sym two);
+    links = λ k z port h has. elim (two_at c.channels x.near x.far k z (ap (λ (zs : List Channel). slice_get zs k) (sym x.channels_are) ∙ h)) [
+      | inl old ↦ made.have.links k z port old has
+      | inr (inl t) ↦ subst (λ (y : Channel). IsChannelOf s ps port y.partner y) (sym t.1) (its_own s ps pair.0 port (suc x.place) x.near x.is_near (ap port_of (sym t.1) ∙ has))
+      | inr (inr t) ↦ subst (λ (y : Channel). IsChannelOf s ps port y.partner y) (sym t.1) (its_own s ps pair.1 port x.place x.far x.is_far (ap port_of (sym t.1) ∙ has))
     ];
     alike = ap (λ (es : List End). length es) x.ends_are ∙ two_long ends c.channels x.asker x.end x.near x.far made.have.alike ∙ ap (λ (zs : List Channel). length zs) (sym x.channels_are);
     unused = λ k e h. elim (two_at ends x.asker x.end k e (ap (λ (es : List End). slice_get es k) (sym x.ends_are) ∙ h)) [
@@ -188,10 +209,20 @@ module _ (s : Settings) (manage : Cube) (clock : ℕ) (ports : List (Port × Por
     split = ends_split ports i pair is
 
     -- no channel has a port of the next link
-    old_port : (k : ℕ) (z : Channel) → slice_get c.channels k ≡ Some z → (slice_get (ends_of ports) k ≡ Some z.port) × (k < length (ends_of (take i ports)))
-    old_port k z h =
-        let first : slice_get (ends_of (take i ports)) k ≡ Some z.port = ap (λ (zs : List Port). slice_get zs k) (sym made.have.ports_are) ∙ slice_get-map (λ (y : Channel). y.port) c.channels k ∙ ap (option_map (λ (y : Channel). y.port)) h in
-        (ap (λ (zs : List Port). slice_get zs k) split.1 ∙ still_at (ends_of (take i ports)) (pair.0 ∷ pair.1 ∷ split.0) k z.port first, slice_get_within (ends_of (take i ports)) k z.port first)
+    its_port : (k : ℕ) (z : Channel) → slice_get c.channels k ≡ Some z → (p : Port) × (slice_get (ends_of (take i ports)) k ≡ Some p) × (Some p ≡ port_of z)
+    its_port k z h = map_at (λ (p : Port). Some p) (ends_of (take i ports)) k (port_of z) (ap (λ (zs : List (Option Port)). slice_get zs k) (sym made.have.ports_are) ∙ slice_get-map port_of c.channels k ∙ ap (option_map port_of) h)
+
+    old_port : (k : ℕ) (z : Channel) (port : Port) → slice_get c.channels k ≡ Some z → IsOnPort z port → (slice_get (ends_of ports) k ≡ Some port) × (k < length (ends_of (take i ports)))
+    old_port k z port h on =
+        let p = its_port k z h in
+        let first : slice_get (ends_of (take i ports)) k ≡ Some port = p.1 ∙ p.2 ∙ on_some z port on in
+        (ap (λ (zs : List Port). slice_get zs k) split.1 ∙ still_at (ends_of (take i ports)) (pair.0 ∷ pair.1 ∷ split.0) k port first, slice_get_within (ends_of (take i ports)) k port first)
+
+    -- each has one, so that none may claim a port
+    none_claims : (port : Port) → IsUnclaimed m below port → ⊥
+    none_claims port u =
+        let p = its_port u.channel.partner u.partner u.is_partner in
+        some_none p.0 (port_of u.partner) p.2 (ap (option_map (λ (a : Attachment). a.port)) u.none)
 
     near_at : slice_get (ends_of ports) (length (ends_of (take i ports))) ≡ Some pair.0
     near_at = ap (λ (zs : List Port). slice_get zs (length (ends_of (take i ports)))) split.1 ∙ front_at (ends_of (take i ports)) pair.0 pair.1 split.0
@@ -203,18 +234,23 @@ module _ (s : Settings) (manage : Cube) (clock : ℕ) (ports : List (Port × Por
     new_flow =
         let l = links.flows i pair is in
         let f = l.flow in
-        let ports_is : IsFlowBelow g below x.near.port x.far.port = subst (λ (p : Port). IsFlowBelow g below p x.far.port) (sym x.is_near.port_is) (subst (λ (p : Port). IsFlowBelow g below pair.0 p) (sym x.is_far.port_is) f) in
-        record {
-          flow = ports_is;
-          others = λ k z h. (
-            (λ same. (let o = old_port k z h in let e = links.apart k (length (ends_of (take i ports))) pair.0 (o.0 ∙ ap (λ (p : Port). Some p) (same ∙ x.is_near.port_is)) near_at in let lt = o.1 in omega (arith, e, lt))),
-            (λ same. (let o = old_port k z h in let e = links.apart k (suc (length (ends_of (take i ports)))) pair.1 (o.0 ∙ ap (λ (p : Port). Some p) (same ∙ x.is_far.port_is)) far_at in let lt = o.1 in omega (arith, e, lt))),
-          );
-          near_link = λ j n live. channel_link s clock ports ps below links pair.0 (suc x.place) x.near x.is_near j n live;
-          far_link = λ j n live. channel_link s clock ports ps below links pair.1 x.place x.far x.is_far j n live;
-          near_silent = λ death pdu of here. silent s clock ports ps below links x.near f.near_end (ap (end_of below) x.is_near.port_is ∙ f.is_near) l.unsent death pdu here;
-          far_silent = λ death pdu of here. silent s clock ports ps below links x.far f.far_end (ap (end_of below) x.is_far.port_is ∙ f.is_far) l.far_unsent death pdu here;
-        }
+        let near_link : Attachment = record { number = x.is_near.link.number; port = pair.0 } in
+        let far_link : Attachment = record { number = x.is_far.link.number; port = pair.1 } in
+        let near_new : IsNewLink m (map process_of ps) below x.near near_link = record {
+          link_is = x.is_near.attached;
+          others = λ k z h on. (let o = old_port k z pair.0 h on in let e = links.apart k (length (ends_of (take i ports))) pair.0 o.0 near_at in let lt = o.1 in omega (arith, e, lt));
+          free = none_claims pair.0;
+          own = λ j n live. channel_link s clock ports ps below links pair.0 (suc x.place) x.near x.is_near j n live;
+          silent = λ death pdu of here. silent s clock ports ps below links x.near near_link f.near_end x.is_near.attached f.is_near l.unsent death pdu here;
+        } in
+        let far_new : IsNewLink m (map process_of ps) below x.far far_link = record {
+          link_is = x.is_far.attached;
+          others = λ k z h on. (let o = old_port k z pair.1 h on in let e = links.apart k (suc (length (ends_of (take i ports)))) pair.1 o.0 far_at in let lt = o.1 in omega (arith, e, lt));
+          free = none_claims pair.1;
+          own = λ j n live. channel_link s clock ports ps below links pair.1 x.place x.far x.is_far j n live;
+          silent = λ death pdu of here. silent s clock ports ps below links x.far far_link f.far_end x.is_far.attached f.is_far l.far_unsent death pdu here;
+        } in
+        record { link = near_link; is_new = near_new; other = inl (record { link = far_link; is_new = far_new; flow = f }) }
 
     abbrev peer : Peer
     peer = record { own = x.place; far = suc x.place; scep = 0; dcep = 0 }
@@ -240,7 +276,7 @@ module _ (s : Settings) (manage : Cube) (clock : ℕ) (ports : List (Port × Por
 
     -- the ends of the next link are a pair
     even : length c.channels ≡ 2 * length (take i ports)
-    even = sym (length-map c.channels (λ (y : Channel). y.port)) ∙ ap (λ (zs : List Port). length zs) made.have.ports_are ∙ ends_long (take i ports)
+    even = sym (length-map c.channels port_of) ∙ ap (λ (zs : List (Option Port)). length zs) made.have.ports_are ∙ length-map (ends_of (take i ports)) (λ (p : Port). Some p) ∙ ends_long (take i ports)
 
     at_pair : (l : ℕ) (side : Side) (z : Channel) → (slice_get c.channels (end_place l side) ≡ Some z) ⊎ (((end_place l side ≡ length c.channels) × (z ≡ x.near)) ⊎ ((end_place l side ≡ suc (length c.channels)) × (z ≡ x.far))) → z.partner ≡ end_place l (other side)
     at_pair l side z (inl old) = (made.stand below links).paired l side z old
@@ -318,10 +354,12 @@ all_stand s manage clock ports ps n c le made below links =
           let its = (links.up.each i m.0 p.0 m.1 p.1).links in
           let stands : slice_get (links_from 0 here) live.place ≡ Some live.link = ap (λ (ls : List Link). slice_get ls live.place) (sym its ∙ ap (λ (z : Process). z.links) p.2) ∙ live.stands in
           let at = kept_at (λ (z : Port). z.node == m.0.node) (ends_of ports) live.place live.link.port (link_on 0 here live.place live.link stands) in
-          let x = map_at (λ (z : Channel). z.port) c.channels at.0 live.link.port (ap (λ (zs : List Port). slice_get zs at.0) (made.have.ports_are ∙ ap ends_of (take_all ports n le)) ∙ at.1.stands) in
-          let its_link : HasLive (map process_of ps) i k x.0.port = record { process = live.process; is_process = live.is_process; place = live.place; link = live.link; stands = live.stands; live = live.live; number_is = live.number_is; port_is = sym x.2 } in
-          let is = was.standing.channels.matched i k at.0 x.0 its_link x.1 in
-          record { place = at.0; channel = x.0; is_channel = x.1; member_is = is.0; number_is = is.1 };
+          let mapped : slice_get (map (λ (p : Port). Some p) (ends_of ports)) at.0 ≡ Some (Some live.link.port) = slice_get-map (λ (p : Port). Some p) (ends_of ports) at.0 ∙ ap (option_map (λ (p : Port). Some p)) at.1.stands in
+          let x = map_at port_of c.channels at.0 (Some live.link.port) (ap (λ (zs : List (Option Port)). slice_get zs at.0) (made.have.ports_are ∙ ap (λ (qs : List (Port × Port)). map (λ (p : Port). Some p) (ends_of qs)) (take_all ports n le)) ∙ mapped) in
+          let on = some_on x.0.link live.link.port x.2 in
+          let its_link : HasLive (map process_of ps) i k on.0.port = record { process = live.process; is_process = live.is_process; place = live.place; link = live.link; stands = live.stands; live = live.live; number_is = live.number_is; port_is = sym on.2 } in
+          let its = was.standing.channels.matched i k at.0 x.0 on.0 x.1 on.1 its_link in
+          record { place = at.0; channel = x.0; is_channel = x.1; member_is = its.0; attached = on.0; attached_is = on.1; number_is = its.1 };
     }
 
 -- The links of a DIF that was made

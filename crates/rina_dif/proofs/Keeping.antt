@@ -91,10 +91,10 @@ housed_set g ps at p p' housed is cap same =
 -- what holds of the IPC processes of a DIF: they are housed, and are managed
 pub record AreHome (d : Dif) (ps : List IpcProcess) : Type 0 where
   pub housed : AreHoused (config_of d.settings) ps
-  pub managed : AreManagedBy d.settings.members d.laid.links d.clock ps d.managements
+  pub managed : AreManagedBy d.laid.is_static d.settings.members d.laid.links d.clock ps d.managements
 
 pub home_set : (d : Dif) (lines : List Direction) (below : Seen) (at : ℕ) (p p' : IpcProcess) (ps : List IpcProcess) → Holds d lines below → slice_get d.processes at ≡ Some p → queue_settings p' ≡ queue_settings p → IsSameHouse (process_of p) (process_of p') → ps ≡ slice_set d.processes at p' → AreHome d ps
 home_set d lines below at p p' ps h is room same new = record {
   housed = subst (AreHoused (config_of d.settings)) (sym new) (housed_set (config_of d.settings) d.processes at p p' h.housed is (ap (λ (s : QueueSettings). s.cap) room) same);
-  managed = subst (λ (qs : List IpcProcess). AreManagedBy d.settings.members d.laid.links d.clock qs d.managements) (sym new) (managed_set d.settings.members d.laid.links d.clock d.processes d.managements at p p' is same.links same.routes h.managed);
+  managed = subst (λ (qs : List IpcProcess). AreManagedBy d.laid.is_static d.settings.members d.laid.links d.clock qs d.managements) (sym new) (managed_set d.laid.is_static d.settings.members d.laid.links d.clock d.processes d.managements at p p' is same.links same.routes h.managed);
 }

@@ -7,6 +7,7 @@ use Rattle.rina_flood.specs.Laws.{NewestIsKept}
 use Rattle.rina_flood.specs.Members.{QuietMembersAgree, QuietMembersClaim}
 use Rattle.rina_member.specs.declared.management.Management.{Management}
 use Rattle.rina_member.specs.Start.{start_items}
+use Rattle.rina_member.proofs.Planned.{planned_hops}
 use Rattle.rina_newest.specs.declared.item.Item.{Item}
 use Rattle.rina_newest.specs.Newest.{IsNewest, kept_at}
 use Rattle.rina_dif.specs.Flooding.{members_seen}
@@ -28,7 +29,9 @@ members_agree law d lines below i j steps first last m n a b quiet =
     law d.laid.is_static d.laid.links (members_seen d) i j steps first m.agent n.agent (a.holds.flooded a.alive) quiet a.is_member (its_agent d.managements i m a.is_management) (its_agent d.managements j n b.is_management)
 
 pub quiet_known : QuietMembersClaim → QuietMembersKnowLinks
-quiet_known law d lines below i j steps first last m n p a b is_p quiet e from =
-    let same = law d.laid.is_static d.laid.links (members_seen d) i j steps m.agent n.agent (a.holds.flooded a.alive) quiet (its_agent d.managements i m a.is_management) (its_agent d.managements j n b.is_management) e in
-    let own = (a.holds.managed.each i first p m a.is_member is_p a.is_management).knows.own e from in
-    ((λ has. own.0 (same.1 has)), (λ has. same.0 (own.1 has)))
+quiet_known law d lines below i j steps first last m n p a b is_p quiet =
+    let managed = a.holds.managed.each i first p m a.is_member is_p a.is_management in
+    let same = law d.laid.is_static d.laid.links (members_seen d) i j steps m.agent n.agent (a.holds.flooded a.alive) quiet (its_agent d.managements i m a.is_management) (its_agent d.managements j n b.is_management) in (
+      λ e from. (let one = same e in let own = managed.knows.own e from in ((λ has. own.0 (one.1 has)), (λ has. one.0 (own.1 has)))),
+      λ still. planned_hops d.settings.members d.laid.links first p.links m.agent (managed.planned still),
+    )

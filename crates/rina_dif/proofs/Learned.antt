@@ -1,5 +1,5 @@
 -- What a member of a DIF knows once it handled the messages of a link, and that the DIF holds.
-use Rattle.std.proofs.Common.{◌≡◌, ◌∙◌, ℕ, ◌<◌, ◌≤◌, false, List, drop, length, slice_get, slice_set, Option, Some, None, Ok, refl, sym, ap, subst}
+use Rattle.std.proofs.Common.{◌≡◌, ◌∙◌, ℕ, ◌<◌, ◌≤◌, Bool, true, false, List, drop, length, slice_get, slice_set, Option, Some, None, Ok, refl, sym, ap, subst}
 use Rattle.std.specs.Prelude.{IsSome}
 use Rattle.std.proofs.lemmas.Option.{same_Some, slice_get_within}
 use Rattle.rina_iface.specs.declared.ends.End.{End}
@@ -7,6 +7,7 @@ use Rattle.rina_iface.specs.Journal.{At}
 use Rattle.rina_iface.specs.Seen.{Seen}
 use Rattle.rina_law.specs.declared.entry.Entry.{Entry}
 use Rattle.rina_law.specs.Direction.{Direction}
+use Rattle.rina_agent.specs.declared.agent.Agent.{Agent}
 use Rattle.rina_agent.specs.declared.message.ManagementMessage.TheVariants.{ToNeighbour}
 use Rattle.rina_agent.specs.declared.state.MemberState.TheVariants.{Enrolled}
 use Rattle.rina_enrol.specs.declared.message.LinkMessage.{LinkMessage}
@@ -19,57 +20,62 @@ use Rattle.rina_data.specs.declared.process.IpcProcess.{IpcProcess}
 use Rattle.rina_data.specs.declared.settings.Member.{Member}
 use Rattle.rina_data.specs.Configs.{config_of}
 use Rattle.rina_data.specs.Deciding.{process_of}
-use Rattle.rina_data.specs.Process.{Process, queue_place}
+use Rattle.rina_data.specs.Process.{queue_place}
 use Rattle.rina_flood.specs.Coming.{ComesNext, WhatComes}
 use Rattle.rina_flood.specs.Members.{IsRunOf, MembersSeen}
 use Rattle.rina_flows.specs.declared.flows.Flows.{Flows}
 use Rattle.rina_member.specs.declared.management.Management.{Management}
-use Rattle.rina_member.specs.Handling.{AreUnenrolled, OwnIsNewest}
-use Rattle.rina_member.specs.Knowing.{AreRoutesOf, Knows, all_claims}
+use Rattle.rina_member.specs.Handling.{OwnIsNewest}
+use Rattle.rina_member.specs.Knowing.{AreRoutesOf, IsPlanned, Knows}
 use Rattle.rina_member.specs.Managements.{Handles, HandlesSdu}
-use Rattle.rina_member.specs.Short.{IsShort}
-use Rattle.rina_member.proofs.Knowing.{knows_routes}
-use Rattle.rina_member.proofs.Learning.{handles_knowing, unenrolled}
-use Rattle.rina_member.proofs.Losing.{linked_enrolled}
+use Rattle.rina_member.specs.Short.{IsShort, TellsNeighbours}
+use Rattle.rina_member.proofs.Enrolled.{handles_enrolled}
+use Rattle.rina_member.proofs.Knowing.{knows_live}
+use Rattle.rina_member.proofs.Learning.{handles_knowing}
+use Rattle.rina_member.proofs.Planned.{handles_planned}
 use Rattle.rina_dif.specs.declared.dif.Dif.{Dif}
 use Rattle.rina_dif.specs.Elsewhere.{ChangesProcess}
 use Rattle.rina_dif.specs.Flooding.{AreFlooding}
 use Rattle.rina_dif.specs.Handling.{HandlesAll, HandlesHere, HandlesInTurn, HandlesOne, PassesAll, or_same, unpassed_sdus}
 use Rattle.rina_dif.specs.Holding.{AreHoused, Holds, IsHoused, LinksStand, Stands}
 use Rattle.rina_dif.specs.LinkDue.{IsLinkEnd}
+use Rattle.rina_dif.specs.Managing.{StayEnrolled, nodes_with}
 use Rattle.rina_dif.specs.Routing.{SetsRoutes, with_routes}
-use Rattle.rina_dif.specs.Shown.{seen_of}
-use Rattle.rina_dif.specs.Telling.{TellsNeighbours}
-use Rattle.rina_dif.proofs.Causing.{process_caused}
-use Rattle.rina_dif.proofs.Handling.{first_turn, handled_connected, handled_flows, handled_seen, handled_written, last_turn, managed_both, with_handled}
+use Rattle.rina_dif.proofs.Handling.{first_turn, handled_caused, handled_connected, handled_flows, handled_written, last_turn, managed_both, with_handled}
 use Rattle.rina_dif.proofs.Elsewhere.{by_process}
-use Rattle.rina_dif.proofs.Enrolled.{enrolled_on, states_set}
+use Rattle.rina_dif.proofs.Enrolled.{enrolled_after, nodes_more}
 use Rattle.rina_dif.proofs.Hearing.{all_turns, its_end, l, message, next, side, turn, turn_at}
 use Rattle.rina_dif.proofs.Keeping.{set_cases}
-use Rattle.rina_dif.proofs.Leaves.{has_process, shown_at}
-use Rattle.rina_dif.proofs.Neighbours.{handles_near}
+use Rattle.rina_dif.proofs.Leaves.{has_process}
+use Rattle.rina_member.proofs.TellsNear.{handles_near}
 use Rattle.rina_dif.proofs.Passing.{with_links}
-use Rattle.rina_dif.proofs.Routed.{live_hop}
+use Rattle.rina_dif.proofs.Turns.{turns_enrolled}
 use Rattle.rina_dif.proofs.Unlinked.{has_agent, has_member}
 
 -- One message
 
-module _ (members : List Member) (plans : List LinkPlan) (now : ℕ) (member : Member) (links : List Link) where
-  -- an enrolled member knows its live links, and tells short messages to its neighbours alone
-  abbrev pub IsSound : Management → Type 0
-  IsSound m = Knows members plans now member links m.agent × (m.agent.state ≡ Enrolled) × TellsNeighbours m.agent
+module _ (is_static : Bool) (members : List Member) (plans : List LinkPlan) (now : ℕ) (member : Member) (links : List Link) (first : Agent) where
+  -- a member knows its links, those of the plan in a static DIF, is enrolled if it was at first, and tells short messages to its neighbours alone
+  pub record IsSound (m : Management) : Type 0 where
+    pub knows : Knows now member links m.agent
+    pub planned : is_static ≡ true → IsPlanned members plans member links m.agent
+    pub stays : first.state ≡ Enrolled → m.agent.state ≡ Enrolled
+    pub tells : TellsNeighbours m.agent
 
-  by_news : (tick number : ℕ) (sdu : List ℕ) (word : LinkMessage) (m : Management) (after : Option Management) → IsInRange word → IsSpelled word sdu → IsShort (ToNeighbour word) → OwnIsNewest m.agent word → HandlesSdu tick number sdu m (Ok after) → IsSound m → IsSound (or_same m after)
-  by_news tick number sdu word m None range spelled short own h sound = sound
-  by_news tick number sdu word m (Some m') range spelled short own h sound =
+  by_news : (number : ℕ) (sdu : List ℕ) (word : LinkMessage) (m : Management) (after : Option Management) → IsInRange word → IsSpelled word sdu → IsShort (ToNeighbour word) → OwnIsNewest m.agent word → HandlesSdu now number sdu m (Ok after) → IsSound m → IsSound (or_same m after)
+  by_news number sdu word m None range spelled short own h sound = sound
+  by_news number sdu word m (Some m') range spelled short own h sound =
       let same : h.0 ≡ word = one_message h.0 word sdu h.1.is_sdu.in_range range h.1.is_sdu.spelled spelled in
-      let handles : Handles tick number word m m' = subst (λ (k : LinkMessage). Handles tick number k m m') same h.2 in
-      let free = unenrolled members plans now member links m.agent sound.0 in
-      let knows = handles_knowing members plans now member links m m' tick number word sound.1 sound.0 short.1 own handles in
-      (knows.0, knows.1, handles_near tick number word m m' free range short handles sound.2)
+      let handles : Handles now number word m m' = subst (λ (k : LinkMessage). Handles now number k m m') same h.2 in
+      record {
+        knows = handles_knowing now number member links word m m' sound.knows range short.1 own handles;
+        planned = λ still. handles_planned members plans member links now number word m m' handles (sound.planned still);
+        stays = λ was. handles_enrolled now number word m m' handles (sound.stays was);
+        tells = handles_near now number word m m' range short handles sound.tells;
+      }
 
-  one_sound : (tick number : ℕ) (sdu : List ℕ) (word : LinkMessage) (m m' : Management) → IsInRange word → IsSpelled word sdu → IsShort (ToNeighbour word) → OwnIsNewest m.agent word → HandlesOne tick number sdu m m' → IsSound m → IsSound m'
-  one_sound tick number sdu word m m' range spelled short own h sound = subst IsSound (sym h.is) (by_news tick number sdu word m h.after range spelled short own h.handles sound)
+  one_sound : (number : ℕ) (sdu : List ℕ) (word : LinkMessage) (m m' : Management) → IsInRange word → IsSpelled word sdu → IsShort (ToNeighbour word) → OwnIsNewest m.agent word → HandlesOne now number sdu m m' → IsSound m → IsSound m'
+  one_sound number sdu word m m' range spelled short own h sound = subst IsSound (sym h.is) (by_news number sdu word m h.after range spelled short own h.handles sound)
 
 -- All of them
 
@@ -83,14 +89,7 @@ Stands' d = (below : Seen) × Stands d below
 
 module _ (what : WhatComes) (d : Dif) (i place number : ℕ) (here : IsLinkEnd d i place number) (g : Management) (is_g : slice_get d.managements i ≡ Some g) (p : IpcProcess) (is_p : slice_get d.processes i ≡ Some p) (member : Member) (is_member : slice_get d.settings.members i ≡ Some member) (alive : d.failed ≡ false) (lines : List Direction) (below : Seen) (h : Holds d lines below) where
   abbrev K : Management → Type 0
-  K m = IsSound d.settings.members d.laid.links d.clock member p.links m
-
-  -- a link of it is live, so it is enrolled
-  enrolled : g.agent.state ≡ Enrolled
-  enrolled =
-      let live = here.live in
-      let same : process_of p ≡ live.process = same_Some (process_of p) live.process (sym (shown_at d i p is_p) ∙ ap (slice_get (seen_of d).processes) (sym here.member) ∙ live.is_process) in
-      linked_enrolled p.links g.agent live.place live.link (h.managed.each i member p g is_member is_p is_g).knows.settled (ap (λ (z : Process). slice_get z.links live.place) same ∙ live.stands)
+  K m = IsSound d.laid.is_static d.settings.members d.laid.links d.clock member p.links g.agent m
 
   turn_knows : (n : ℕ) (m m' : Management) (entry : Entry) → slice_get here.end.got n ≡ Some entry → HandlesOne d.clock number entry.bytes m m' → IsRunOf d.laid.is_static d.laid.links (turn d i place number here g is_g below h.connected n m) → K m → K m'
   turn_knows n m m' entry is one r sound =
@@ -103,7 +102,7 @@ module _ (what : WhatComes) (d : Dif) (i place number : ℕ) (here : IsLinkEnd d
         spelled = word.2;
       } in
       let of = what d.laid.is_static d.laid.links (turn d i place number here g is_g below h.connected n m) (l d i place number here g is_g below h.connected) (side d i place number here g is_g below h.connected) (its_end d i place number here g is_g below h.connected) m.agent word.0 r comes in
-      one_sound d.settings.members d.laid.links d.clock member p.links d.clock number entry.bytes word.0 m m' word.1 word.2 of.short of.own one sound
+      one_sound d.laid.is_static d.settings.members d.laid.links d.clock member p.links g.agent number entry.bytes word.0 m m' word.1 word.2 of.short of.own one sound
 
   module _ (after : Management) (routes : List Route) (flows : Flows) (handles : HandlesInTurn d.clock number (unpassed_sdus here.end) g after) (are : AreRoutesOf after.agent d.settings.members routes) (passes : PassAll d place flows) (stand : (b : Seen) → LinksStand d b → LinksStand (with_links d flows) b) where
     abbrev d' : Dif
@@ -114,17 +113,18 @@ module _ (what : WhatComes) (d : Dif) (i place number : ℕ) (here : IsLinkEnd d
         let whole = (h.connected.standing.journal.whole place here.end here.is_end).taken in
         let own = h.managed.each i member p g is_member is_p is_g in
         let run : IsRunOf d.laid.is_static d.laid.links (turn d i place number here g is_g below h.connected here.end.taken g) = subst (λ (z : MembersSeen). IsRunOf d.laid.is_static d.laid.links z) (sym (first_turn d i place number here g after is_g p is_p routes flows below h.connected)) (h.flooded alive) in
-        all_turns d i place number here g is_g below h.connected K turn_knows (drop here.end.taken here.end.got) here.end.taken g after whole refl handles (own.knows, enrolled, own.tells) run
+        all_turns d i place number here g is_g below h.connected K turn_knows (drop here.end.taken here.end.got) here.end.taken g after whole refl handles (record { knows = own.knows; planned = own.planned; stays = λ was. was; tells = own.tells }) run
 
     -- its next hops have queues
     housed : AreHoused (config_of d.settings) d'.processes
     housed =
         let old = h.housed i p is_p in
-        let over = knows_routes d.settings.members d.laid.links d.clock member p.links after.agent routes both.0.0 are in
         set_cases (IsHoused (config_of d.settings)) d.processes i (with_routes p routes) (record {
           cap = old.cap;
           links = old.links;
-          queues = λ dst n qos hop known. (let x = live_hop d.settings.members d.laid.links member p.links (all_claims after.agent.items) routes dst n over hop in subst (λ (k : ℕ). IsSome (queue_place qos k (process_of p).queues)) x.4 (old.links x.0 qos x.1 x.2 x.3 known));
+          queues = λ dst n qos hop known.
+              let x = knows_live d.clock member p.links after.agent d.settings.members routes dst n both.0.knows are hop in
+              subst (λ (k : ℕ). IsSome (queue_place qos k (process_of p).queues)) x.is_number (old.links x.place qos x.link x.stands x.live known);
         }) h.housed
 
     -- all of them were passed
@@ -140,21 +140,24 @@ module _ (what : WhatComes) (d : Dif) (i place number : ℕ) (here : IsLinkEnd d
     handled_holds : Holds d' lines below
     handled_holds =
         let stands = handled_flows d i place number here g after is_g p is_p routes flows lines below h in
+        let own = h.managed.each i member p g is_member is_p is_g in
         record {
           tied = h.tied;
           standing = stands.stands;
           carrying = stands.carrying;
           numbered = stands.numbered;
           accounted = stands.accounted;
-          caused = process_caused (seen_of d) (seen_of d') below i (record (process_of p) { routes = routes }) (handled_seen d i place number here g after is_g p is_p routes flows) h.caused;
+          caused = handled_caused d i place number here g after is_g p is_p routes flows below h.caused;
           written_off = handled_written d i place number here g after is_g p is_p routes flows h.written_off;
           housed = housed;
-          managed = managed_both d.settings.members d.laid.links d.clock d.processes d.managements i p (with_routes p routes) g after h.managed is_p is_g (λ m is_m. record {
-            knows = subst (λ (z : Member). Knows d.settings.members d.laid.links d.clock z p.links after.agent) (same_Some member m (sym is_member ∙ is_m)) both.0.0;
+          managed = managed_both d.laid.is_static d.settings.members d.laid.links d.clock d.processes d.managements i p (with_routes p routes) g after h.managed is_p is_g (λ m is_m. record {
+            knows = subst (λ (z : Member). Knows d.clock z p.links after.agent) (same_Some member m (sym is_member ∙ is_m)) both.0.knows;
+            planned = λ still. subst (λ (z : Member). IsPlanned d.settings.members d.laid.links z p.links after.agent) (same_Some member m (sym is_member ∙ is_m)) (both.0.planned still);
+            bounded = own.bounded;
             routes = are;
-            tells = both.0.2;
+            tells = both.0.tells;
           });
-          enrolled = enrolled_on d.laid.is_static d.settings.members d.settings.admits d.managements (slice_set d.managements i after) d.enrolled (states_set d.managements i g after is_g (both.0.1 ∙ sym enrolled)) h.enrolled;
+          enrolled = enrolled_after d i g after h.enrolled is_g both.0.stays;
           connected = handled_connected d i place number here g after is_g p is_p routes flows below (stand below h.connected);
           flooded = λ still. floods;
         }
@@ -180,16 +183,9 @@ module _ (what : WhatComes) (d : Dif) (i place number : ℕ) (here : IsLinkEnd d
 
 -- The member at a place, wherever the DIF stands
 
--- the DIF once these are its management connections, its managements and its IPC processes
-abbrev pub with_parts : Dif → Flows → List Management → List IpcProcess → Dif
-with_parts d flows managements processes = record d { connections = record d.connections { flows = flows }; managements = managements; processes = processes }
-
--- its management
-pub free_at : (d : Dif) (i : ℕ) → i < length d.settings.members → Stands' d → (m : Management) → slice_get d.managements i ≡ Some m → AreUnenrolled m.agent.links
-free_at d i lt st m is =
-    let member = has_member d i lt in
-    let p = has_process d st.0 i st.1 lt in
-    unenrolled d.settings.members d.laid.links d.clock member.0 p.0.links m.agent (st.1.1.managed.each i member.0 p.0 m member.1 p.1 is).knows
+-- the DIF once these are its management connections, its managements, its IPC processes, and the nodes of its enrolled members
+abbrev pub with_parts : Dif → Flows → List Management → List IpcProcess → List ℕ → Dif
+with_parts d flows managements processes nodes = record d { connections = record d.connections { flows = flows }; managements = managements; processes = processes; enrolled = nodes }
 
 -- the end at its link
 pub taken_at : (d : Dif) (place : ℕ) → Stands' d → (end : End) → At d.connections.flows.journal.ends place end → end.taken ≤ length end.got
@@ -199,27 +195,34 @@ module _ (d : Dif) (i place number : ℕ) (here : IsLinkEnd d i place number) (l
   pub at_place : place < length d.connections.flows.journal.ends
   at_place = slice_get_within d.connections.flows.journal.ends place here.end here.is_end
 
-  pub handles_done : WhatComes → d.failed ≡ false → (after : Management) (routes : List Route) (flows : Flows) (ms : List Management) (ps : List IpcProcess)
+  pub handles_done : WhatComes → d.failed ≡ false → (after : Management) (routes : List Route) (flows : Flows) (ms : List Management) (ps : List IpcProcess) (nodes : List ℕ)
       → ((m : Management) (end : End) → slice_get d.managements i ≡ Some m → At d.connections.flows.journal.ends place end → HandlesInTurn d.clock number (unpassed_sdus end) m after) → AreRoutesOf after.agent d.settings.members routes
-      → PassAll d place flows → ((b : Seen) → LinksStand d b → LinksStand (with_links d flows) b) → SetsRoutes i routes d.processes ps → ms ≡ slice_set d.managements i after
-      → (lines : List Direction) (below : Seen) → Holds d lines below → HandlesHere d lines below i place number (with_parts d flows ms ps)
-  handles_done what alive after routes flows ms ps handles are passes stand sets are_managed lines below h =
+      → PassAll d place flows → ((b : Seen) → LinksStand d b → LinksStand (with_links d flows) b) → SetsRoutes i routes d.processes ps → ms ≡ slice_set d.managements i after → nodes ≡ nodes_with d i after
+      → (lines : List Direction) (below : Seen) → Holds d lines below → HandlesHere d lines below i place number (with_parts d flows ms ps nodes)
+  handles_done what alive after routes flows ms ps nodes handles are passes stand sets are_managed are_nodes lines below h =
       let member = has_member d i lt in
       let p = has_process d below i (lines, h) lt in
       let g = has_agent d lines below i lt h in
       let does = handled_does what d i place number here g.0 g.1 p.0 p.1 member.0 member.1 alive lines below h after routes flows (handles g.0 here.end g.1 here.is_end) are passes stand in
-      subst (λ (ms' : List Management). HandlesHere d lines below i place number (with_parts d flows ms' ps)) (sym are_managed)
-      (subst (λ (ps' : List IpcProcess). HandlesHere d lines below i place number (with_parts d flows (slice_set d.managements i after) ps')) (sym (sets p.0 p.1)) does)
+      subst (λ (ns : List ℕ). HandlesHere d lines below i place number (with_parts d flows ms ps ns)) (sym are_nodes)
+      (subst (λ (ms' : List Management). HandlesHere d lines below i place number (with_parts d flows ms' ps (nodes_with d i after))) (sym are_managed)
+      (subst (λ (ps' : List IpcProcess). HandlesHere d lines below i place number (with_parts d flows (slice_set d.managements i after) ps' (nodes_with d i after))) (sym (sets p.0 p.1)) does))
 
   -- where the end passed them before the member has another management, and other next hops
-  pub handles_after : WhatComes → d.failed ≡ false → (after : Management) (routes : List Route) (mid : Dif) (ms : List Management) (ps : List IpcProcess)
+  pub handles_after : WhatComes → d.failed ≡ false → (after : Management) (routes : List Route) (mid : Dif) (ms : List Management) (ps : List IpcProcess) (nodes : List ℕ)
       → ((m : Management) (end : End) → slice_get d.managements i ≡ Some m → At d.connections.flows.journal.ends place end → HandlesInTurn d.clock number (unpassed_sdus end) m after) → AreRoutesOf after.agent d.settings.members routes
-      → PassAll d place mid.connections.flows → ((b : Seen) → LinksStand d b → LinksStand mid b) → mid ≡ with_links d mid.connections.flows → SetsRoutes i routes mid.processes ps → ms ≡ slice_set mid.managements i after
-      → (lines : List Direction) (below : Seen) → Holds d lines below → HandlesHere d lines below i place number (record mid { processes = ps; managements = ms })
-  handles_after what alive after routes mid ms ps handles are passes stand whole sets are_managed lines below h =
-      subst (λ (z : Dif). HandlesHere d lines below i place number (record z { processes = ps; managements = ms })) (sym whole)
-      (handles_done what alive after routes mid.connections.flows ms ps handles are passes (λ b links. subst (λ (z : Dif). LinksStand z b) whole (stand b links))
-      (subst (λ (qs : List IpcProcess). SetsRoutes i routes qs ps) (ap (λ (z : Dif). z.processes) whole) sets) (are_managed ∙ ap (λ (z : Dif). slice_set z.managements i after) whole) lines below h)
+      → PassAll d place mid.connections.flows → ((b : Seen) → LinksStand d b → LinksStand mid b) → mid ≡ with_links d mid.connections.flows → SetsRoutes i routes mid.processes ps → ms ≡ slice_set mid.managements i after → nodes ≡ nodes_with d i after
+      → (lines : List Direction) (below : Seen) → Holds d lines below → HandlesHere d lines below i place number (record mid { processes = ps; managements = ms; enrolled = nodes })
+  handles_after what alive after routes mid ms ps nodes handles are passes stand whole sets are_managed are_nodes lines below h =
+      subst (λ (z : Dif). HandlesHere d lines below i place number (record z { processes = ps; managements = ms; enrolled = nodes })) (sym whole)
+      (handles_done what alive after routes mid.connections.flows ms ps nodes handles are passes (λ b links. subst (λ (z : Dif). LinksStand z b) whole (stand b links))
+      (subst (λ (qs : List IpcProcess). SetsRoutes i routes qs ps) (ap (λ (z : Dif). z.processes) whole) sets) (are_managed ∙ ap (λ (z : Dif). slice_set z.managements i after) whole) are_nodes lines below h)
+
+  -- who was enrolled is so still
+  pub stays_enrolled : WhatComes → d.failed ≡ false → Stands' d → (after : Management) → ((m : Management) (end : End) → slice_get d.managements i ≡ Some m → At d.connections.flows.journal.ends place end → HandlesInTurn d.clock number (unpassed_sdus end) m after) → StayEnrolled d.enrolled (nodes_with d i after)
+  stays_enrolled what alive st after handles =
+      let g = has_agent d st.1.0 st.0 i lt st.1.1 in
+      nodes_more d i g.0 after st.1.1.enrolled g.1 (turns_enrolled d.clock number (unpassed_sdus here.end) g.0 after (handles g.0 here.end g.1 here.is_end))
 
   pub handles_leave : Stands' d → (routes : List Route) (ps : List IpcProcess) → SetsRoutes i routes d.processes ps → ChangesProcess (Some i) d.processes ps
   handles_leave st routes ps sets =

@@ -46,7 +46,6 @@ pub mod MessageSteps
 pub mod Moves
 pub mod Named
 pub mod Naming
-pub mod Neighbours
 pub mod Offered
 pub mod OnLinks
 pub mod OpenEnd
@@ -78,6 +77,7 @@ pub mod Ways
 pub mod Wiring
 pub mod Written
 pub mod Warrants
+pub mod HandledAhead
 pub mod Handling
 pub mod Hearing
 pub mod Partners

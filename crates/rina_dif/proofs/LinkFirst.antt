@@ -5,6 +5,7 @@ use Rattle.std.proofs.lemmas.List.{get_or_default}
 use Rattle.std.specs.List.{list_any}
 use Rattle.std.proofs.lemmas.List.Folds.{list_any_at}
 use Rattle.std.proofs.lemmas.Option.{get_or_from_slice_get, slice_get_within}
+use Rattle.rina_channel.specs.declared.channel.Attachment.{Attachment}
 use Rattle.rina_channel.specs.declared.channel.Channel.{Channel}
 use Rattle.rina_flows.specs.declared.due.Item.{Item}
 use Rattle.rina_flows.specs.declared.due.Item.TheVariants.{Ack, Again, GiveUp, Gone}
@@ -35,50 +36,56 @@ same_some o a b h g = cc
 
 -- Whether the item is due at one place
 
-is_its_link : (c : Channel) (l : Link) → is_link_of c l ≡ true → (l.live ≡ true) × (l.number ≡ c.number) × (l.port ≡ c.port)
+is_its_link : (c : Attachment) (l : Link) → is_link_of c l ≡ true → (l.live ≡ true) × (l.number ≡ c.number) × (l.port ≡ c.port)
 unfolding is_link_of
 is_its_link c l h = grind arith
 
-is_link_by : (c : Channel) (l : Link) → l.live ≡ true → l.number ≡ c.number → l.port ≡ c.port → is_link_of c l ≡ true
+is_link_by : (c : Attachment) (l : Link) → l.live ≡ true → l.number ≡ c.number → l.port ≡ c.port → is_link_of c l ≡ true
 unfolding is_link_of
 is_link_by c l live number port = grind arith
 
 -- a link is found among those of an IPC process where one is live
-abbrev IsAmong : Channel → List Link → Type 0
+abbrev IsAmong : Attachment → List Link → Type 0
 IsAmong c links = (place : ℕ) × (l : Link) × (slice_get links place ≡ Some l) × (is_link_of c l ≡ true)
 
-among_one : (c : Channel) (l : Link) (links : List Link) (b : Bool) → is_link_of c l ≡ b → (list_any (is_link_of c) links ≡ true → IsAmong c links) → (b || list_any (is_link_of c) links) ≡ true → IsAmong c (l ∷ links)
+among_one : (c : Attachment) (l : Link) (links : List Link) (b : Bool) → is_link_of c l ≡ b → (list_any (is_link_of c) links ≡ true → IsAmong c links) → (b || list_any (is_link_of c) links) ≡ true → IsAmong c (l ∷ links)
 among_one c l links true is rest any = (0, l, refl, is)
 among_one c l links false is rest any = (let r = rest any in (suc r.0, r.1, r.2, r.3))
 
-link_among : (c : Channel) (links : List Link) → list_any (is_link_of c) links ≡ true → IsAmong c links
+link_among : (c : Attachment) (links : List Link) → list_any (is_link_of c) links ≡ true → IsAmong c links
 link_among c [] h = absurd cc
 link_among c (l ∷ links) h = among_one c l links (is_link_of c l) refl (λ any. link_among c links any) h
 
-none_its : (c : Channel) (links : List Link) (place : ℕ) (l : Link) → list_any (is_link_of c) links ≡ false → slice_get links place ≡ Some l → is_link_of c l ≡ true → ⊥
+none_its : (c : Attachment) (links : List Link) (place : ℕ) (l : Link) → list_any (is_link_of c) links ≡ false → slice_get links place ≡ Some l → is_link_of c l ≡ true → ⊥
 none_its c links place l none at is = false≢true (sym none ∙ list_any_at (is_link_of c) links place l (slice_get_within links place l at) (ap (is_link_of c) (get_or_from_slice_get links place l l at) ∙ is))
 
 -- the link of a channel is a live one of this IPC process
-pub live_link : (d : Dif) (i : ℕ) (p : IpcProcess) (c : Channel) → slice_get d.processes i ≡ Some p → c.member ≡ i → list_any (is_link_of c) p.links ≡ true → IsLive (seen_of d).processes c
-live_link d i p c is member any =
-    let l = link_among c p.links any in
-    let its = is_its_link c l.1 l.3 in
+pub live_link : (d : Dif) (i : ℕ) (p : IpcProcess) (c : Channel) (a : Attachment) → slice_get d.processes i ≡ Some p → c.member ≡ i → c.link ≡ Some a → list_any (is_link_of a) p.links ≡ true → IsLive (seen_of d).processes c
+live_link d i p c a is member attached any =
+    let l = link_among a p.links any in
+    let its = is_its_link a l.1 l.3 in
     record {
-      process = process_of p;
-      is_process = ap (slice_get (seen_of d).processes) member ∙ shown_at d i p is;
-      place = l.0;
-      link = l.1;
-      stands = l.2;
-      live = its.0;
-      number_is = its.1;
-      port_is = its.2;
+      link = a;
+      link_is = attached;
+      live = record {
+        process = process_of p;
+        is_process = ap (slice_get (seen_of d).processes) member ∙ shown_at d i p is;
+        place = l.0;
+        link = l.1;
+        stands = l.2;
+        live = its.0;
+        number_is = its.1;
+        port_is = its.2;
+      };
     }
 
 -- it is none
-pub no_live_link : (d : Dif) (i : ℕ) (p : IpcProcess) (c : Channel) → slice_get d.processes i ≡ Some p → c.member ≡ i → list_any (is_link_of c) p.links ≡ false → IsLive (seen_of d).processes c → ⊥
-no_live_link d i p c is member none live =
+pub no_live_link : (d : Dif) (i : ℕ) (p : IpcProcess) (c : Channel) (a : Attachment) → slice_get d.processes i ≡ Some p → c.member ≡ i → c.link ≡ Some a → list_any (is_link_of a) p.links ≡ false → IsLive (seen_of d).processes c → ⊥
+no_live_link d i p c a is member attached none its =
+    let live = its.live in
     let same : live.process ≡ process_of p = same_some (slice_get (seen_of d).processes c.member) live.process (process_of p) live.is_process (ap (slice_get (seen_of d).processes) member ∙ shown_at d i p is) in
-    none_its c p.links live.place live.link none (ap (λ (z : Process). slice_get z.links live.place) (sym same) ∙ live.stands) (is_link_by c live.link live.live live.number_is live.port_is)
+    let on : its.link ≡ a = same_some c.link its.link a its.link_is attached in
+    none_its a p.links live.place live.link none (ap (λ (z : Process). slice_get z.links live.place) (sym same) ∙ live.stands) (is_link_by a live.link live.live (live.number_is ∙ ap (λ (z : Attachment). z.number) on) (live.port_is ∙ ap (λ (z : Attachment). z.port) on))
 
 -- Of the places that were looked at the one of the least number
 
@@ -145,7 +152,8 @@ Tells item d i place told = (below : Seen) (links : LinksStand d below) → Tell
 one_number : (item : Item) (d : Dif) (links : List Direction) (i place number : ℕ) → IsLinkDue item d links i place number → HasOne (IsLinkDue item d links i) place number
 one_number item d links i place number due its other =
     let same = same_some (slice_get d.connections.channels place) other.here.channel due.here.channel other.here.stands due.here.stands in
-    other.here.number_is ∙ ap (λ (c : Channel). c.number) same ∙ sym due.here.number_is
+    let attached : other.here.live.link ≡ due.here.live.link = same_some due.here.channel.link other.here.live.link due.here.live.link (ap (λ (c : Channel). c.link) (sym same) ∙ other.here.live.link_is) due.here.live.link_is in
+    other.here.number_is ∙ ap (λ (a : Attachment). a.number) attached ∙ sym due.here.number_is
 
 found_one : (item : Item) (d : Dif) (i : ℕ) (Old New : ℕ → Type 0) (first : Option LinkTurn) (place number : ℕ) → WithOne Old New place → FoundOf item d i Old first → Tells item d i place (Some number) → FoundOf item d i New (Some (lesser_link first (record { place = place; number = number })))
 found_one item d i Old New first place number one f tells below links =
@@ -164,18 +172,26 @@ due_within item d below links i place number due =
 -- At one place
 
 -- its link is not a live one of the IPC process
-pub tells_not_live : (item : Item) (d : Dif) (i place : ℕ) (p : IpcProcess) (c : Channel) → slice_get d.connections.channels place ≡ Some c → slice_get d.processes i ≡ Some p → c.member ≡ i → list_any (is_link_of c) p.links ≡ false → Tells item d i place None
-tells_not_live item d i place p c stands is member none below links number due =
+pub tells_not_live : (item : Item) (d : Dif) (i place : ℕ) (p : IpcProcess) (c : Channel) (a : Attachment) → slice_get d.connections.channels place ≡ Some c → slice_get d.processes i ≡ Some p → c.member ≡ i → c.link ≡ Some a → list_any (is_link_of a) p.links ≡ false → Tells item d i place None
+tells_not_live item d i place p c a stands is member attached none below links number due =
     let same : due.here.channel ≡ c = same_some (slice_get d.connections.channels place) due.here.channel c due.here.stands stands in
-    no_live_link d i p c is member none (subst (λ (z : Channel). IsLive (seen_of d).processes z) same due.here.live)
+    no_live_link d i p c a is member attached none (subst (λ (z : Channel). IsLive (seen_of d).processes z) same due.here.live)
+
+-- it has no link
+pub tells_unlinked : (item : Item) (d : Dif) (i place : ℕ) (c : Channel) → slice_get d.connections.channels place ≡ Some c → c.link ≡ None → Tells item d i place None
+tells_unlinked item d i place c stands none below links number due =
+    let same : due.here.channel ≡ c = same_some (slice_get d.connections.channels place) due.here.channel c due.here.stands stands in
+    let is : Some due.here.live.link ≡ None = sym due.here.live.link_is ∙ ap (λ (z : Channel). z.link) same ∙ none in
+    absurd cc
 
 -- it has no connection
 pub tells_no_conn : (item : Item) (d : Dif) (i place : ℕ) → length d.connections.flows.conns ≤ place → Tells item d i place None
 tells_no_conn item d i place le below links number due = (let lt = due_within item d below links i place number due in absurd (omega (arith, lt, le)))
 
-pub tells_due : (item : Item) (d : Dif) (i place : ℕ) (p : IpcProcess) (c : Channel) (end : End) (r : Bool) → slice_get d.connections.channels place ≡ Some c → slice_get d.connections.flows.journal.ends place ≡ Some end → end.state ≡ Allocated → slice_get d.processes i ≡ Some p → c.member ≡ i → list_any (is_link_of c) p.links ≡ true → DueIn item d.clock place d.connections.flows r → r ≡ true → Tells item d i place (Some c.number)
-tells_due item d i place p c end r stands is_end allocated is member any tells due below links = record {
-  here = record { channel = c; stands = stands; member = member; number_is = refl; live = live_link d i p c is member any; end = end; is_end = is_end; allocated = allocated };
+pub tells_due : (item : Item) (d : Dif) (i place : ℕ) (p : IpcProcess) (c : Channel) (a : Attachment) (end : End) (r : Bool) → slice_get d.connections.channels place ≡ Some c → slice_get d.connections.flows.journal.ends place ≡ Some end → end.state ≡ Allocated → slice_get d.processes i ≡ Some p → c.member ≡ i → c.link ≡ Some a → list_any (is_link_of a) p.links ≡ true → DueIn item d.clock place d.connections.flows r → r ≡ true → Tells item d i place (Some a.number)
+unfolding live_link
+tells_due item d i place p c a end r stands is_end allocated is member attached any tells due below links = record {
+  here = record { channel = c; stands = stands; member = member; live = live_link d i p c a is member attached any; number_is = refl; end = end; is_end = is_end; allocated = allocated };
   due = (tells (link_config (config_of d.settings) d.connections.manage) links.lines end links.standing.journal links.tied is_end allocated).0 due;
 }
 

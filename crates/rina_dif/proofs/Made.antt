@@ -44,8 +44,9 @@ use Rattle.rina_dif.proofs.Enrolled.{starts_known}
 use Rattle.rina_dif.specs.Routing.{AreRouted, HaveFirstRoutes}
 use Rattle.rina_dif.proofs.Bare.{IsUntouched, map_at, none_in, start_holds, starts}
 use Rattle.rina_dif.proofs.Laid.{same_end, stood_there}
-use Rattle.rina_dif.proofs.Managed.{routed_at}
-use Rattle.rina_dif.proofs.Routed.{laid_still, live_hop}
+use Rattle.rina_member.proofs.Knowing.{knows_live}
+use Rattle.rina_dif.proofs.Managed.{its_agent}
+use Rattle.rina_dif.proofs.Routed.{laid_still}
 use Rattle.rina_dif.proofs.Sound.{are_members, is_config}
 use Rattle.rina_dif.proofs.Started.{first_routed, made_managed, no_plans, started_still}
 use Rattle.rina_dif.specs.Connected.{AreConnected}
@@ -148,8 +149,7 @@ made_stands plan i dif d old new kept sound at are clock ends conns undrawn free
           (laid.up.each k m.0 p m.1 is).ledger;
     } in
     let members = subst (λ (s : Settings). AreMembers (config_of s)) (sym are) (are_members plan i dif sound at) in
-    let managed : AreManagedBy d.settings.members dif.links d.clock d.processes d.managements = made_managed plan i dif d old new ports bare sound at are config members named was started routed in
-    let routes = routed_at d.settings.members dif.links d.clock d.processes d.managements in (
+    let managed : AreManagedBy dif.is_static d.settings.members dif.links d.clock d.processes d.managements = made_managed plan i dif d old new ports bare sound at are config members named was started routed in (
       [],
       start_holds d new kept ends conns start untouched members (undrawn config.widths) (λ k p is.
           let within = slice_get_within d.processes k p is in
@@ -159,10 +159,11 @@ made_stands plan i dif d old new kept sound at are clock ends conns undrawn free
             cap = up.room;
             links = λ place qos link stands live known. has_place d.settings m.0.node (ends_of ports) p place qos link up stands known;
             queues = λ dst link qos hop known.
-                let hops = routes k m.0 p managed m.1 is in
-                let own = live_hop d.settings.members dif.links m.0 p.links hops.0 p.routes dst link hops.1 hop in
-                subst (λ (n : ℕ). IsSome (queue_place qos n (process_of p).queues)) own.4 (has_place d.settings m.0.node (ends_of ports) p own.0 qos own.1 up own.2 known);
-          }) (subst (λ (l : Layout). AreManagedBy d.settings.members l.links d.clock d.processes d.managements) (sym same) managed) (subst (λ (l : Layout). AreEnrolledBy l.is_static d.settings.members d.settings.admits (states_of d.managements) d.enrolled) (sym same) (made_enrolled plan i dif d bare are members was.up.aligned started nodes)) connected floods,
+                let g = its_agent d.settings.members d.managements k m.0 managed.aligned m.1 in
+                let one = managed.each k m.0 p g.0 m.1 is g.1 in
+                let own = knows_live d.clock m.0 p.links g.0.agent d.settings.members p.routes dst link one.knows one.routes hop in
+                subst (λ (n : ℕ). IsSome (queue_place qos n (process_of p).queues)) own.is_number (has_place d.settings m.0.node (ends_of ports) p own.place qos own.link up own.stands known);
+          }) (subst (λ (l : Layout). AreManagedBy l.is_static d.settings.members l.links d.clock d.processes d.managements) (sym same) managed) (subst (λ (l : Layout). AreEnrolledBy l.is_static d.settings.members d.settings.admits (states_of d.managements) d.enrolled) (sym same) (made_enrolled plan i dif d bare are members was.up.aligned started nodes)) connected floods,
     )
 
 -- What it is
@@ -191,7 +192,7 @@ made_new plan i dif d old new sound at are clock alive ends conns waiting names 
     let laid = laid_still plan dif d.settings dif.links old new ports d.managements (length d.managements) bare d.processes was routed in
     let config : IsConfig (config_of d.settings) = subst (λ (s : Settings). IsConfig (config_of s)) (sym are) (is_config plan i dif sound at) in
     let members : AreMembers (config_of d.settings) = subst (λ (s : Settings). AreMembers (config_of s)) (sym are) (are_members plan i dif sound at) in
-    let managed : AreManagedBy d.settings.members dif.links d.clock d.processes d.managements = made_managed plan i dif d old new ports bare sound at are config members named was started routed in
+    let managed : AreManagedBy dif.is_static d.settings.members dif.links d.clock d.processes d.managements = made_managed plan i dif d old new ports bare sound at are config members named was started routed in
     let so = started_still dif.is_static d.settings.cubes d.settings.members dif.links dif.rules dif.allow bare d.processes d.managements started routed in
     record {
       settings = its_settings plan i dif d.settings at are;

@@ -1,5 +1,5 @@
 -- A management message is offered at the connection of its link, and the DIF holds.
-use Rattle.std.proofs.Common.{◌≡◌, ◌∙◌, ℕ, ◌≤◌, true, List, [], ◌∷◌, ◌++◌, length, map, slice_get, slice_set, Option, Some, None, option_map, Ok, refl, sym, ap, subst, arith, inl, inr, length-set}
+use Rattle.std.proofs.Common.{◌≡◌, ◌∙◌, ℕ, ◌≤◌, Bool, true, List, [], ◌∷◌, ◌++◌, length, map, slice_get, slice_set, Option, Some, None, option_map, Ok, refl, sym, ap, subst, arith, inl, inr, length-set}
 use Rattle.std.proofs.lemmas.Bool.{true≢false}
 use Rattle.std.proofs.lemmas.List.{length-map, map-set}
 use Rattle.std.proofs.lemmas.Option.{slice_get-map}
@@ -24,11 +24,11 @@ use Rattle.rina_agent.specs.declared.message.ManagementMessage.TheVariants.{ToMe
 use Rattle.rina_agent.specs.declared.message.Waiting.{Waiting}
 use Rattle.rina_agent.specs.Agenda.{waits_on}
 use Rattle.rina_member.specs.declared.management.Management.{Management}
-use Rattle.rina_member.specs.Knowing.{IsSettled}
+use Rattle.rina_member.proofs.Knowing.{sends_knowing}
+use Rattle.rina_member.proofs.Planned.{planned_links}
 use Rattle.rina_member.specs.Managements.{IsSduOf, with_sent}
 use Rattle.rina_member.proofs.Lists.{found}
 use Rattle.rina_plan.specs.declared.dif.LinkPlan.{LinkPlan}
-use Rattle.rina_data.specs.declared.link.Link.{Link}
 use Rattle.rina_data.specs.declared.process.IpcProcess.{IpcProcess}
 use Rattle.rina_data.specs.declared.settings.Member.{Member}
 use Rattle.rina_data.specs.Configs.{config_of, cube_by}
@@ -38,7 +38,7 @@ use Rattle.rina_dif_law.specs.Dif.{constants}
 use Rattle.rina_dif_law.specs.Ids.{Ids, pdu_of_piece}
 use Rattle.rina_dif_law.specs.Sending.{offered_entry, offered_pieces}
 use Rattle.rina_flood.specs.Journals.{offered_by, passed_by}
-use Rattle.rina_member.specs.Short.{IsShort}
+use Rattle.rina_member.specs.Short.{IsShort, IsToNeighbour}
 use Rattle.rina_flood.specs.Members.{Adds, AreSame, OffersMessage}
 use Rattle.rina_flood.specs.Network.{There}
 use Rattle.rina_flood.specs.Static.{LinkEnd, end_place}
@@ -61,12 +61,12 @@ use Rattle.rina_dif.specs.declared.dif.Dif.{Dif}
 use Rattle.rina_dif.specs.declared.send.FirstHop.{FirstHop}
 use Rattle.rina_dif.specs.Changing.{changed_at, changed_if}
 use Rattle.rina_dif.specs.Connected.{AreConnected, channels_seen}
-use Rattle.rina_dif.specs.Flooding.{AreFlooding, handled_at, link_end, members_seen, offered_at}
+use Rattle.rina_dif.specs.Flooding.{AreFlooding, handled_at, link_end, members_seen, offered_at, state_by}
 use Rattle.rina_dif.specs.Holding.{Holds, LinksStand}
 use Rattle.rina_dif.specs.LinkDue.{IsLinkEnd}
 use Rattle.rina_dif.specs.Managing.{AreManagedBy, IsManaged, agents_of}
 use Rattle.rina_dif.specs.Messaging.{IsFirstSdu, IsOpenEnd, IsReady, OffersAt, OffersDue, manage_config}
-use Rattle.rina_dif.specs.Telling.{IsToNeighbour, TellNeighbours}
+use Rattle.rina_dif.specs.Telling.{TellNeighbours}
 use Rattle.rina_dif.specs.Sending.{AreOf, HasRoomFor, Puts, queued}
 use Rattle.rina_dif.specs.Shown.{seen_of}
 use Rattle.rina_dif.proofs.Bare.{map_at}
@@ -76,7 +76,7 @@ use Rattle.rina_dif.proofs.Flooding.{side_at}
 use Rattle.rina_dif.proofs.Keeping.{IsSameHouse, house_is, same_places}
 use Rattle.rina_dif.proofs.Leaves.{shown_at}
 use Rattle.rina_dif.proofs.LinksLive.{serving_lives}
-use Rattle.rina_dif.proofs.Neighbours.{sends_near}
+use Rattle.rina_member.proofs.TellsNear.{sends_near}
 use Rattle.rina_dif.proofs.Sent.{IsPut, is_put, pieces_count}
 use Rattle.rina_dif.proofs.Served.{put_lawful}
 
@@ -96,27 +96,24 @@ unnamed_of ids pdus ps are qos = λ k pdu is.
 changed_is : (ms : List Management) (i : ℕ) (f : Management → Management) (g : Management) → slice_get ms i ≡ Some g → changed_at i f ms ≡ slice_set ms i (f g)
 changed_is ms i f g is = ap (λ (o : Option Management). changed_if o i f ms) is
 
--- which messages wait says nothing of whether it is enrolled
-sent_settled : (links : List Link) (g : Management) (number : ℕ) → IsSettled links g.agent → IsSettled links (with_sent g number).agent
-sent_settled links g number (inl enrolled) = inl enrolled
-sent_settled links g number (inr outside) = inr (record { state = outside.state; items = outside.items; bare = outside.bare })
-
 -- which messages wait says nothing of what it knows
-sent_managed : (members : List Member) (plans : List LinkPlan) (now : ℕ) (m : Member) (p : IpcProcess) (g : Management) (number : ℕ) → IsManaged members plans now m p g → IsManaged members plans now m p (with_sent g number)
-sent_managed members plans now m p g number h = record {
-  knows = record { address = h.knows.address; settled = sent_settled p.links g number h.knows.settled; numbers = h.knows.numbers; links_are = h.knows.links_are; own = h.knows.own; keys = h.knows.keys; past = h.knows.past };
+sent_managed : (is_static : Bool) (members : List Member) (plans : List LinkPlan) (now : ℕ) (m : Member) (p : IpcProcess) (g : Management) (number : ℕ) → IsManaged is_static members plans now m p g → IsManaged is_static members plans now m p (with_sent g number)
+sent_managed is_static members plans now m p g number h = record {
+  knows = sends_knowing now m p.links g number h.knows;
+  planned = λ still. planned_links members plans m p.links g.agent (with_sent g number).agent refl (h.planned still);
+  bounded = h.bounded;
   routes = record { rows = h.routes.rows; hops = h.routes.hops; are = h.routes.are };
   tells = sends_near number g h.tells;
 }
 
-all_managed : (members : List Member) (plans : List LinkPlan) (now : ℕ) (ps : List IpcProcess) (ms : List Management) (i number : ℕ) (g : Management) → slice_get ms i ≡ Some g → AreManagedBy members plans now ps ms → AreManagedBy members plans now ps (slice_set ms i (with_sent g number))
-all_managed members plans now ps ms i number g is h = record {
+all_managed : (is_static : Bool) (members : List Member) (plans : List LinkPlan) (now : ℕ) (ps : List IpcProcess) (ms : List Management) (i number : ℕ) (g : Management) → slice_get ms i ≡ Some g → AreManagedBy is_static members plans now ps ms → AreManagedBy is_static members plans now ps (slice_set ms i (with_sent g number))
+all_managed is_static members plans now ps ms i number g is h = record {
   laid_out = h.laid_out;
   aligned = length-set ms i (with_sent g number) ∙ h.aligned;
   each = λ k m p x is_m is_p is_x. elim (set_at ms i k g (with_sent g number) x is is_x) [
     | inl t ↦
-        (let was : IsManaged members plans now m p g = h.each k m p g is_m is_p (ap (slice_get ms) t.0 ∙ is) in
-        subst (λ (z : Management). IsManaged members plans now m p z) (sym t.1) (sent_managed members plans now m p g number was))
+        (let was : IsManaged is_static members plans now m p g = h.each k m p g is_m is_p (ap (slice_get ms) t.0 ∙ is) in
+        subst (λ (z : Management). IsManaged is_static members plans now m p z) (sym t.1) (sent_managed is_static members plans now m p g number was))
     | inr u ↦ h.each k m p x is_m is_p u.1
   ];
 }
@@ -166,7 +163,8 @@ module _ (d : Dif) (i place number : ℕ) (sdu : List ℕ) (entry : Entry) (end 
   offered_floods r =
       let side = side_at place in
       let its_end : LinkEnd = record { member = i; state = There number } in
-      let end_is : link_end here.channel ≡ its_end = (λ j. record { member = here.member j; state = There (sym here.number_is j) }) in
+      let state : state_by here.channel.link ≡ There number = ap state_by here.live.link_is ∙ ap (λ (k : ℕ). There k) (sym here.number_is) in
+      let end_is : link_end here.channel ≡ its_end = (λ j. record { member = here.member j; state = state j }) in
       let there : slice_get (map link_end d.connections.channels) (end_place side.0 side.1) ≡ Some its_end = ap (slice_get (map link_end d.connections.channels)) side.2 ∙ slice_get-map link_end d.connections.channels place ∙ ap (option_map link_end) here.stands ∙ ap (λ (e : LinkEnd). Some e) end_is in
       let agent : slice_get (agents_of d.managements) i ≡ Some g.agent = slice_get-map (λ (z : Management). z.agent) d.managements i ∙ ap (option_map (λ (z : Management). z.agent)) first.is_management in
       let f = found (waits_on number) g.agent.agenda first.waiting first.first in
@@ -307,7 +305,7 @@ module _ (d : Dif) (i place number : ℕ) (sdu : List ℕ) (conn : Conn) (made :
         caused = s.caused;
         written_off = s.written_off;
         housed = s.housed;
-        managed = all_managed d.settings.members d.laid.links d.clock (slice_set d.processes i put_process) d.managements i number teller r.first.is_management s.managed;
+        managed = all_managed d.laid.is_static d.settings.members d.laid.links d.clock (slice_set d.processes i put_process) d.managements i number teller r.first.is_management s.managed;
         enrolled = enrolled_on d.laid.is_static d.settings.members d.settings.admits d.managements (slice_set d.managements i (with_sent teller number)) d.enrolled (states_set d.managements i teller (with_sent teller number) r.first.is_management refl) h.enrolled;
         connected = s.connected;
         flooded = λ alive. offered_floods d i place number sdu (offered_entry (constants (manage_config d) o'.offers.cube o'.offers.its_ids) o'.parts o'.offers.line) o'.offers.end flows (slice_set d.processes i put_process) r.here r.first tell early o'.offers.place.is_conn.end o'.cut.1 o'.offers.offered.3 (h.flooded alive);

@@ -13,9 +13,10 @@ use Rattle.rina_base.specs.declared.pdu.Pdu.{Pdu}
 use Rattle.rina_base.specs.declared.pdu.PduKind.TheVariants.{Piece as APiece, Ack as AnAck}
 use Rattle.rina_base.specs.declared.pdu.PduView.{PduView}
 use Rattle.rina_base.specs.Pdus.{key_of}
+use Rattle.rina_channel.specs.declared.channel.Attachment.{Attachment}
 use Rattle.rina_channel.specs.declared.channel.Channel.{Channel}
 use Rattle.rina_channel.specs.Changes.{IsAwaited, LeavesLinks}
-use Rattle.rina_channel.specs.Channels.{ChannelsSeen, has_port}
+use Rattle.rina_channel.specs.Channels.{ChannelsSeen, IsOnPort, has_port, is_at, is_on}
 use Rattle.rina_channel.specs.Coming.{HasNoTaker, IsTaker, LeavesOff, TakesAck, TakesOnLink, TakesPiece}
 use Rattle.rina_channel.specs.Ledgers.{unnamed_from, unnamed_line}
 use Rattle.rina_channel.specs.Names.{link_config, named, names_at}
@@ -44,7 +45,7 @@ use Rattle.rina_flows.proofs.Framed.{ids_at}
 use Rattle.rina_flows.proofs.Taking.{taken_here}
 use Rattle.rina_iface.specs.declared.ends.End.{End}
 use Rattle.rina_iface.specs.Journal.{AreKept}
-use Rattle.rina_iface.specs.Seen.{Seen, unpassed}
+use Rattle.rina_iface.specs.Seen.{Seen}
 use Rattle.rina_iface.proofs.Changed.{slice_set-same}
 use Rattle.rina_law.specs.Direction.{Direction, has_room}
 use Rattle.rina_law.specs.Line.{arrival_verdict}
@@ -75,13 +76,23 @@ some_of (Some k) some = (k, refl)
 
 -- The end that takes it
 
-pub channel_port : (port : Port) (c : Channel) → has_port port c ≡ true → c.port ≡ port
-unfolding has_port
-channel_port port c h = grind arith
+attached_port : (port : Port) (a : Attachment) → is_at port a ≡ true → a.port ≡ port
+unfolding is_at
+attached_port port a h = grind arith
 
-pub has_its_port : (port : Port) (c : Channel) → c.port ≡ port → has_port port c ≡ true
-unfolding has_port
-has_its_port port c h = grind arith
+port_attached : (port : Port) (a : Attachment) → a.port ≡ port → is_at port a ≡ true
+unfolding is_at
+port_attached port a h = grind arith
+
+pub channel_port : (port : Port) (c : Channel) → has_port port c ≡ true → IsOnPort c port
+channel_port port c h = attached c.link refl
+  where
+    attached : (o : Option Attachment) → c.link ≡ o → IsOnPort c port
+    attached None is = absurd (false≢true (sym (ap (is_on port) is) ∙ h))
+    attached (Some a) is = record { link = a; link_is = is; port_is = attached_port port a (sym (ap (is_on port) is) ∙ h) }
+
+pub has_its_port : (port : Port) (c : Channel) → IsOnPort c port → has_port port c ≡ true
+has_its_port port c on = ap (is_on port) on.link_is ∙ port_attached port on.link on.port_is
 
 module _ (g : Config) (now : ℕ) (c : Connections) (links : List Direction) (ps : List Process) (below : Seen) (st : IsStanding (channels_seen g now c) links ps below) (port : Port) (pdu : Pdu) where
   abbrev seen : ChannelsSeen
@@ -100,15 +111,15 @@ module _ (g : Config) (now : ℕ) (c : Connections) (links : List Direction) (ps
       let x = first_passes (has_port port) c.channels place t.at in
       let is : its ≡ named x.0.partner place pdu = t.its_is ∙ its_named place x.0 t.conn x.1.stands t.is_conn in
       let h = taken_here c.flows.journal.ends c.flows.conns place its t.takes in
-      (x.0, is, (h.0, h.1, record { stands = x.1.stands; port_is = channel_port port x.0 x.1.passes; takes = subst (λ (z : Pdu). TakesAt c.flows.journal.ends (conns_of c.flows.conns) z place h.0 h.1) is h.2 }, h.2))
+      (x.0, is, (h.0, h.1, record { stands = x.1.stands; on_port = channel_port port x.0 x.1.passes; takes = subst (λ (z : Pdu). TakesAt c.flows.journal.ends (conns_of c.flows.conns) z place h.0 h.1) is h.2 }, h.2))
 
   -- no channel does
   pub no_taker : ((place : ℕ) (its : Pdu) → IsLinkTaker c port pdu place its → ⊥) → HasNoTaker seen port pdu
   no_taker none k channel end ids t =
-      let passes = has_its_port port channel t.port_is in
+      let passes = has_its_port port channel t.on_port in
       let first = some_of (position (has_port port) c.channels) (passes_some (has_port port) c.channels k channel t.stands passes) in
       let x = first_passes (has_port port) c.channels first.0 first.1 in
-      let same : first.0 ≡ k = st.channels.apart first.0 k x.0 channel x.1.stands t.stands (channel_port port x.0 x.1.passes ∙ sym t.port_is) in
+      let same : first.0 ≡ k = st.channels.apart first.0 k x.0 channel port x.1.stands t.stands (channel_port port x.0 x.1.passes) t.on_port in
       let conn = map_at ids_of c.flows.conns k ids t.takes.is_conn.ids_are in
       let its : Pdu = named conn.0.sending.form.peer.far conn.0.sending.form.peer.own pdu in
       let is : its ≡ named channel.partner k pdu = its_named k channel conn.0 t.stands conn.1 in
@@ -267,7 +278,7 @@ module _ (d : Dif) (at since : ℕ) (port : Port) (hop : Hop) (lines : List Dire
       let t = taker_at g d.clock d.connections links (seen_of d).processes below h.connected.standing port hop.pdu place its taker in
       let real : Pdu = named t.0.partner place hop.pdu in
       let on = t.2.2 in
-      let awaited : IsAwaited m (seen_of d).processes below real = coming_is_awaited m links (seen_of d).processes below place t.0 o.entry hop kept h.connected.standing on.stands (ap (unpassed below) on.port_is ∙ o.oldest) o.opens link.1 in_time in
+      let awaited : IsAwaited m (seen_of d).processes below real = coming_is_awaited m links (seen_of d).processes below place t.0 port o.entry hop kept h.connected.standing on.stands on.on_port o.oldest o.opens link.1 in_time in
       let come = calls_for_pieces_arrive g d.connections.manage d.clock d.connections.channels links (seen_of d).processes below d.connections.flows flows place t.2.0 t.2.1 its p.0.ledger x.0 cause h.connected.standing h.connected.tied (subst (IsAwaited m (seen_of d).processes below) (sym t.1) awaited) (ap (λ (z : Pdu). z.kind) t.1 ∙ kind) t.2.3 x.1 in
       let same : after flows ≡ record m { ends = flows.journal.ends } = ap (λ (ids : List Ids). record m { ends = flows.journal.ends; ids = ids }) come.ids in
       let dropped : List Off = map unnamed_line come.offs in

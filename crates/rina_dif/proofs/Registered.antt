@@ -33,9 +33,10 @@ use Rattle.rina_dif_law.proofs.Keepers.{facility}
 use Rattle.rina_dir.specs.Directory.{key_of}
 use Rattle.rina_plan.specs.declared.dif.LinkPlan.{LinkPlan}
 use Rattle.rina_member.specs.declared.management.Management.{Management}
-use Rattle.rina_member.specs.Knowing.{AreRoutesOf, Knows}
+use Rattle.rina_member.specs.Knowing.{AreRoutesOf, IsPlanned, Knows}
 use Rattle.rina_member.specs.Managements.{MayMakeEntry}
 use Rattle.rina_member.proofs.Entering.{made_routes, makes_knowing}
+use Rattle.rina_member.proofs.Planned.{planned_links}
 use Rattle.rina_dif.specs.declared.dif.Dif.{Dif}
 use Rattle.rina_dif.specs.Elsewhere.{enrolled_home}
 use Rattle.rina_dif.specs.Facade.{GoesOn, IsShownAs, StaysStanding, shown_as}
@@ -44,14 +45,14 @@ use Rattle.rina_dif.specs.Holding.{Holds}
 use Rattle.rina_dif.specs.Managing.{AreManaged, AreManagedBy, IsManaged, states_of}
 use Rattle.rina_dif.specs.Registering.{AnswersEntry, RegistersManaged, UnregistersManaged, no_value, own_address, register_refusal, register_told, unregister_refusal, unregister_told}
 use Rattle.rina_dif.specs.Shown.{seen_of}
-use Rattle.rina_dif.specs.Telling.{TellsNeighbours}
+use Rattle.rina_member.specs.Short.{TellsNeighbours}
 use Rattle.rina_dif.specs.Whole.{IsDif}
 use Rattle.rina_dif.proofs.Bound.{at_its_node}
-use Rattle.rina_dif.proofs.Enrolled.{enrolled_here, enrolled_home_is, enrolled_on, states_set}
+use Rattle.rina_dif.proofs.Enrolled.{enrolled_here, enrolled_home_is, enrolled_on, states_set, stay_same}
 use Rattle.rina_dif.proofs.Failing.{noted}
 use Rattle.rina_dif.proofs.Flooding.{made_floods}
 use Rattle.rina_dif.proofs.Naming.{may_register, may_unregister, unregisters_nowhere}
-use Rattle.rina_dif.proofs.Neighbours.{makes_near}
+use Rattle.rina_member.proofs.TellsNear.{makes_near}
 use Rattle.rina_dif.proofs.Unlinked.{has_agent}
 
 -- the DIF with other names and managements
@@ -70,20 +71,22 @@ pub record HasMade (now : ℕ) (app : List ℕ) (g g' : Management) : Type 0 whe
   pub enrolled : g.agent.state ≡ Enrolled
 
 -- it is managed as before
-made_managed : (members : List Kept) (plans : List LinkPlan) (now : ℕ) (m : Kept) (p : IpcProcess) (app : List ℕ) (g g' : Management) → HasMade now app g g' → IsManaged members plans now m p g → IsManaged members plans now m p g'
-made_managed members plans now m p app g g' h one = record {
-  knows = subst (λ (z : Agent). Knows members plans now m p.links z) (sym h.makes) (makes_knowing members plans now m p.links g.agent app h.value h.enrolled h.may one.knows);
+made_managed : (is_static : Bool) (members : List Kept) (plans : List LinkPlan) (now : ℕ) (m : Kept) (p : IpcProcess) (app : List ℕ) (g g' : Management) → HasMade now app g g' → IsManaged is_static members plans now m p g → IsManaged is_static members plans now m p g'
+made_managed is_static members plans now m p app g g' h one = record {
+  knows = subst (λ (z : Agent). Knows now m p.links z) (sym h.makes) (makes_knowing now m p.links g.agent app h.value h.may one.knows);
+  planned = λ still. subst (λ (z : Agent). IsPlanned members plans m p.links z) (sym h.makes) (planned_links members plans m p.links g.agent (made None g.agent now (key_of app) h.value) refl (one.planned still));
+  bounded = one.bounded;
   routes = subst (λ (z : Agent). AreRoutesOf z members p.routes) (sym h.makes) (made_routes members p.routes g.agent now app h.value one.knows.keys one.routes);
   tells = subst (λ (z : Agent). TellsNeighbours z) (sym h.makes) (makes_near g.agent now app h.value h.name h.own one.tells);
 }
 
 -- and so are all
-pub managed_made : (members : List Kept) (plans : List LinkPlan) (now : ℕ) (ps : List IpcProcess) (managements : List Management) (at : ℕ) (app : List ℕ) (g g' : Management) → slice_get managements at ≡ Some g → HasMade now app g g' → AreManagedBy members plans now ps managements → AreManagedBy members plans now ps (slice_set managements at g')
-managed_made members plans now ps managements at app g g' is_g made h = record {
+pub managed_made : (is_static : Bool) (members : List Kept) (plans : List LinkPlan) (now : ℕ) (ps : List IpcProcess) (managements : List Management) (at : ℕ) (app : List ℕ) (g g' : Management) → slice_get managements at ≡ Some g → HasMade now app g g' → AreManagedBy is_static members plans now ps managements → AreManagedBy is_static members plans now ps (slice_set managements at g')
+managed_made is_static members plans now ps managements at app g g' is_g made h = record {
   laid_out = h.laid_out;
   aligned = length-set managements at g' ∙ h.aligned;
   each = λ k m p y is_m is_p is_y. elim (set_at managements at k g g' y is_g is_y) [
-    | inl here ↦ subst (λ (z : Management). IsManaged members plans now m p z) (sym here.1) (made_managed members plans now m p app g g' made (h.each k m p g is_m is_p (ap (slice_get managements) here.0 ∙ is_g)))
+    | inl here ↦ subst (λ (z : Management). IsManaged is_static members plans now m p z) (sym here.1) (made_managed is_static members plans now m p app g g' made (h.each k m p g is_m is_p (ap (slice_get managements) here.0 ∙ is_g)))
     | inr there ↦ h.each k m p y is_m is_p there.1
   ];
 }
@@ -128,7 +131,7 @@ holds_named d ns ms lines below managed states floods h = (let st = h.standing i
 
 -- where the member at a place made an entry
 pub holds_made : (d : Dif) (ns : List Registered) (at : ℕ) (app : List ℕ) (g g' : Management) (lines : List Direction) (below : Seen) → slice_get d.managements at ≡ Some g → HasMade d.clock app g g' → Holds d lines below → Holds (with_names d ns (slice_set d.managements at g')) lines below
-holds_made d ns at app g g' lines below is_g made h = holds_named d ns (slice_set d.managements at g') lines below (managed_made d.settings.members d.laid.links d.clock d.processes d.managements at app g g' is_g made h.managed) (states_set d.managements at g g' is_g (ap (λ (z : Agent). z.state) made.makes)) (λ r. made_floods d at g g' app made.value is_g made.may made.makes r) h
+holds_made d ns at app g g' lines below is_g made h = holds_named d ns (slice_set d.managements at g') lines below (managed_made d.laid.is_static d.settings.members d.laid.links d.clock d.processes d.managements at app g g' is_g made h.managed) (states_set d.managements at g g' is_g (ap (λ (z : Agent). z.state) made.makes)) (λ r. made_floods d at g g' app made.value is_g made.may made.makes r) h
 
 -- where none did
 pub holds_without : (d : Dif) (ns : List Registered) (lines : List Direction) (below : Seen) → Holds d lines below → Holds (with_names d ns d.managements) lines below
@@ -150,7 +153,7 @@ named_goes_on d ns ms on is = (let f = fac_refl d.clock d.clock (fac_of (seen_of
   later = record { ends = f.ends; cubes = f.cubes };
   facility = facility (seen_of (with_names d ns ms)) is.stands.0 is.below (on is.stands.0 is.below is.stands.1).standing;
   clock = refl;
-  enrolled = refl;
+  enrolled = stay_same d.enrolled d.enrolled refl;
 })
 
 -- What it shows

@@ -6,13 +6,17 @@ use Rattle.rina_iface.proofs.Changed.{set_at}
 use Rattle.rina_law.specs.Direction.{Direction}
 use Rattle.rina_data.specs.declared.link.Route.{Route}
 use Rattle.rina_data.specs.Process.{Process}
-use Rattle.rina_dif_law.specs.Accounted.{IsAccounted, counts_of}
+use Rattle.rina_base.specs.declared.number.Key.{Key}
+use Rattle.rina_data.specs.Configs.{Member}
+use Rattle.rina_dif_law.specs.Accounted.{IsAccounted, Resends, counts_of}
 use Rattle.rina_dif_law.specs.Carried.{IsCarrying}
 use Rattle.rina_dif_law.specs.Cloud.{Everywhere}
-use Rattle.rina_dif_law.specs.Dif.{DifSeen, with_process}
+use Rattle.rina_dif_law.specs.Dif.{DifSeen, IsProcess, with_process}
+use Rattle.rina_dif_law.specs.Standing.{IsStanding as DifStands}
 use Rattle.rina_dif_law.specs.Written.{AreWrittenOff}
+use Rattle.rina_dif_law.proofs.Accounting.{resends_on, same_refl}
 use Rattle.rina_dif_law.proofs.After.{after_none}
-use Rattle.rina_dif_law.proofs.Balancing.{AreSame}
+use Rattle.rina_dif_law.proofs.Balancing.{AreSame, IsBefore, accounted_on, moved_same}
 use Rattle.rina_dif_law.proofs.Clouds.{covers_less}
 use Rattle.rina_dif_law.proofs.Going.{lost_stands}
 use Rattle.rina_dif_law.proofs.OfLinks.{accounted_but}
@@ -68,3 +72,44 @@ module _ (d : DifSeen) (flows : List Direction) (below : Seen) (i : ℕ) (proces
 
   pub rerouted_written : AreWrittenOff d → AreWrittenOff d'
   rerouted_written w = written_on None' d d' (process_noted None' d d' i process new [] refl is_process (sym (append-nil process.ledger)) (λ off none. absurd none) (ports_same process.links process.links refl)) (λ j off none member p q. absurd none) w
+
+-- The nodes of the enrolled members are others
+
+module _ (d : DifSeen) (nodes : List ℕ) where
+  abbrev pub admitted : DifSeen
+  admitted = record d { enrolled = nodes }
+
+  -- the account counts none of them
+  admitted_before : (lines : List Direction) (below : Seen) (i : ℕ) (m : Member) (p : Process) (k : Key) → IsProcess admitted i m p → IsBefore d admitted lines lines below below i m p k
+  admitted_before lines below i m p k is = record {
+    process = p;
+    is_process = record { is_member = is.is_member; is_process = is.is_process };
+    resends = resends_on d admitted m.addr k.scep refl (λ n ids x. x);
+    moved = moved_same m.addr k (Resends admitted m.addr k.scep) (counts_of d lines below m p k) (counts_of admitted lines below m p k) (same_refl (counts_of d lines below m p k));
+  }
+
+  admitted_stands : (lines : List Direction) (below : Seen) → DifStands d lines below → DifStands admitted lines below
+  admitted_stands lines below st = record {
+    config = st.config;
+    clock = st.clock;
+    aligned = st.aligned;
+    linked = st.linked;
+    inside = st.inside;
+    spelled = st.spelled;
+    items = st.items;
+    journal = st.journal;
+    ports = record { own = st.ports.own; apart = st.ports.apart; drawn = st.ports.drawn };
+    own = st.own;
+  }
+
+  pub admitted_flows : (lines : List Direction) (below : Seen) → FlowsStand d lines below → FlowsStand admitted lines below
+  admitted_flows lines below h = record {
+    zero = h.zero;
+    stands = admitted_stands lines below h.stands;
+    numbered = (let n = h.numbered in record { members = n.members; addressed = n.addressed; counted = n.counted; drawn = n.drawn; named = n.named });
+    carrying = record { entries = h.carrying.entries; holding = λ i from e ids line conn inbound. h.carrying.holding i from e ids line conn (record { partner = inbound.partner; is_partner = inbound.is_partner; partners = inbound.partners; is_line = inbound.is_line }) };
+    accounted = accounted_on d admitted lines lines below below h.accounted h.accounted.passed h.accounted.apart (λ i m p k is. admitted_before lines below i m p k is);
+  }
+
+  pub admitted_written : AreWrittenOff d → AreWrittenOff admitted
+  admitted_written w = λ i m p off is. w i m p off (record { is_member = is.is_member; is_process = is.is_process })

@@ -1,5 +1,5 @@
 -- The IPC processes of a DIF get their next hops.
-use Rattle.std.proofs.Common.{◌≡◌, ◌∙◌, ◌⊎◌, ⊎_elim, ℕ, ◌+◌, ◌<◌, ◌≤◌, ◌==◌, Bool, true, false, cond, get_or, Contains, List, [], ◌∷◌, find, length, length-set, slice_get, Option, Some, None, option_map, refl, sym, ap, subst, arith, inl, inr, zero, suc, filter}
+use Rattle.std.proofs.Common.{◌≡◌, ◌∙◌, ◌⊎◌, ⊎_elim, ℕ, ◌+◌, ◌<◌, ◌≤◌, ◌==◌, Bool, true, false, cond, get_or, Contains, List, [], ◌∷◌, find, length, length-set, slice_get, Option, Some, None, option_map, refl, sym, ap, subst, arith, inl, inr}
 use Rattle.std.specs.List.{cons_option, filter_map}
 use Rattle.std.proofs.lemmas.Bool.Decides.{eqb_tells}
 use Rattle.std.proofs.lemmas.Option.{get_or_from_slice_get, slice_get-get_or, slice_get_within}
@@ -8,13 +8,10 @@ use Rattle.rina_member.specs.declared.management.Management.{Management}
 use Rattle.rina_iface.proofs.Changed.{set_at}
 use Rattle.rina_iface.specs.Seen.{Seen}
 use Rattle.rina_base.specs.declared.number.Port.{Port}
-use Rattle.rina_graph.specs.declared.graph.Edge.{Edge}
-use Rattle.rina_route.specs.declared.link.Link.{Link as Hop}
-use Rattle.rina_route.specs.Routes.{AreHops, IsHop, counted, hop_at}
+use Rattle.rina_route.specs.Routes.{hop_at}
 use Rattle.rina_plan.specs.declared.dif.DifPlan.{DifPlan}
 use Rattle.rina_plan.specs.declared.dif.LinkPlan.{LinkPlan}
 use Rattle.rina_stack.specs.declared.plan.Plan.{Plan}
-use Rattle.rina_data.specs.declared.link.Link.{Link}
 use Rattle.rina_data.specs.declared.link.Route.{Route}
 use Rattle.rina_data.specs.declared.process.IpcProcess.{IpcProcess}
 use Rattle.rina_data.specs.declared.settings.Member.{Member}
@@ -22,7 +19,7 @@ use Rattle.rina_data.specs.declared.settings.Settings.{Settings}
 use Rattle.rina_data.specs.Process.{next_hop}
 use Rattle.rina_data.proofs.Finding.{found_in, there}
 use Rattle.rina_member.specs.Knowing.{AreRoutesOf}
-use Rattle.rina_member.specs.Routing.{AreRoutesOver, edges_from, live_links, live_of, own_link, own_links, route_to, routes_to}
+use Rattle.rina_member.specs.Routing.{route_to, routes_to}
 use Rattle.rina_dif.specs.Laying.{AreLaid, IsLinkedUp, ends_of}
 use Rattle.rina_dif.specs.Routing.{AreRouted, SetsRoutes, with_routes}
 
@@ -55,26 +52,6 @@ at_place {X = X} xs x has = (has.0, slice_get-get_or xs has.0 x has.1 ∙ ap (λ
 is_there : {X : Type 0} (xs : List X) (k : ℕ) (x : X) → slice_get xs k ≡ Some x → Contains xs x
 is_there xs k x is = (k, slice_get_within xs k x is, get_or_from_slice_get xs k x x is)
 
--- Its own links
-
-number_by : (link : Link) (o : Option Edge) (h : Hop) → option_map (λ (e : Edge). record { number = link.number; peer = e.to; weight = e.weight }) o ≡ Some h → link.number ≡ h.number
-number_by link None h is = absurd cc
-number_by link (Some e) h is =
-    let made : Hop = record { number = link.number; peer = e.to; weight = e.weight } in
-    let same : made ≡ h = cc in
-    ap (λ (z : Hop). z.number) same
-
-pub own_number : (edges : List Edge) (links : List Link) (h : Hop) → Contains (own_links edges links) h → (k : ℕ) × (link : Link) × (slice_get links k ≡ Some link) × (link.number ≡ h.number)
-own_number edges links h has =
-    let r = made_of (own_link edges) links h has in
-    let at = at_place links r.0 r.1 in
-    (at.0, r.0, at.1, number_by r.0 (slice_get edges r.0.number) h r.2)
-
--- a next hop is one of them
-hop_there : (edges : List Edge) (links : List Hop) (own dst n : ℕ) (o : Option ℕ) → o ≡ Some n → IsHop edges links own dst o → (h : Hop) × Contains links h × (h.number ≡ n)
-hop_there edges links own dst n None is hop = absurd cc
-hop_there edges links own dst n (Some m) is hop = (let same : m ≡ n = cc in (hop.3.0.0, hop.3.0.1, hop.3.0.3 ∙ same))
-
 -- Its next hops
 
 row_by : (addr n : ℕ) (o : Option ℕ) (r : Route) → option_map (λ n. record { dst = addr; link = n }) o ≡ Some r → r.link ≡ n → (addr ≡ r.dst) × (o ≡ Some n)
@@ -90,24 +67,6 @@ row_if false addr n o r is link = row_by addr n o r is link
 
 row_of : (own n : ℕ) (rows : List (ℕ × ℕ)) (m : Member) (r : Route) → route_to own rows m ≡ Some r → r.link ≡ n → (m.addr ≡ r.dst) × (hop_at rows m.addr ≡ Some n)
 row_of own n rows m r is link = row_if (m.addr == own) m.addr n (hop_at rows m.addr) r is link
-
-hop_found : (dst n : ℕ) (routes : List Route) (o : Option Route) → find (λ (r : Route). r.dst == dst) routes ≡ o → option_map (λ (r : Route). r.link) o ≡ Some n → (r : Route) × Contains routes r × (r.link ≡ n)
-hop_found dst n routes None found is = absurd cc
-hop_found dst n routes (Some r) found is =
-    let at = found_in (λ (r : Route). r.dst == dst) routes r found in
-    let link : r.link ≡ n = cc in
-    (r, is_there routes at.0 r at.1, link)
-
--- the link of each next hop is one of those that were given
-knows_hop : (members : List Member) (edges : List Edge) (links : List Link) (claimed : List Edge) (rows : List (ℕ × ℕ)) (routes : List Route) (own dst n : ℕ) → AreHops own (own_links edges links) claimed rows → routes ≡ routes_to own rows members → next_hop dst routes ≡ Some n → (k : ℕ) × (link : Link) × (slice_get links k ≡ Some link) × (link.number ≡ n)
-knows_hop members edges links claimed rows routes own dst n hops are hop =
-    let is : next_hop dst (routes_to own rows members) ≡ Some n = ap (next_hop dst) (sym are) ∙ hop in
-    let r = hop_found dst n (routes_to own rows members) (find (λ (r : Route). r.dst == dst) (routes_to own rows members)) refl is in
-    let to = made_of (route_to own rows) members r.0 r.1 in
-    let row = row_of own n rows to.0 r.0 to.2 r.2 in
-    let h = hop_there (counted own (own_links edges links) claimed) (own_links edges links) own to.0.addr n (hop_at rows to.0.addr) row.1 (hops to.0.addr) in
-    let one = own_number edges links h.0 h.1 in
-    (one.0, one.1, one.2, one.3 ∙ h.2)
 
 -- a next hop leads to the address of a member
 dst_found : (dst : ℕ) (routes : List Route) (r : Route) → find (λ (z : Route). z.dst == dst) routes ≡ Some r → r.dst ≡ dst
@@ -131,23 +90,6 @@ to_by own dst n rows members (Some r) found is =
 
 pub to_member : (own dst n : ℕ) (rows : List (ℕ × ℕ)) (members : List Member) → next_hop dst (routes_to own rows members) ≡ Some n → (k : ℕ) × (m : Member) × (slice_get members k ≡ Some m) × (m.addr ≡ dst)
 to_member own dst n rows members hop = to_by own dst n rows members (find (λ (r : Route). r.dst == dst) (routes_to own rows members)) refl hop
-
--- what was filtered stood there, and passes
-filtered_if : {X : Type 0} (f : X → Bool) (y : X) (ys : List X) (x : X) (k : ℕ) (b : Bool) → f y ≡ b → ((k : ℕ) → slice_get (filter f ys) k ≡ Some x → (j : ℕ) × (slice_get ys j ≡ Some x) × (f x ≡ true)) → slice_get (cond b (y ∷ filter f ys) (filter f ys)) k ≡ Some x → (j : ℕ) × (slice_get (y ∷ ys) j ≡ Some x) × (f x ≡ true)
-filtered_if f y ys x zero true is rest at = (let same : y ≡ x = cc in (0, at, ap f (sym same) ∙ is))
-filtered_if f y ys x (suc k) true is rest at = (let r = rest k at in (suc r.0, r.1, r.2))
-filtered_if f y ys x k false is rest at = (let r = rest k at in (suc r.0, r.1, r.2))
-
-filtered : {X : Type 0} (f : X → Bool) (xs : List X) (x : X) (k : ℕ) → slice_get (filter f xs) k ≡ Some x → (j : ℕ) × (slice_get xs j ≡ Some x) × (f x ≡ true)
-filtered f [] x k at = absurd cc
-filtered f (y ∷ ys) x k at = filtered_if f y ys x k (f y) refl (λ j h. filtered f ys x j h) at
-
--- a live one of its own
-pub live_hop : (members : List Member) (plans : List LinkPlan) (m : Member) (links : List Link) (claimed : List Edge) (routes : List Route) (dst n : ℕ) → AreRoutesOver m.addr (live_links members plans m links) claimed members routes → next_hop dst routes ≡ Some n → (k : ℕ) × (link : Link) × (slice_get links k ≡ Some link) × (link.live ≡ true) × (link.number ≡ n)
-live_hop members plans m links claimed routes dst n are hop =
-    let l = knows_hop members (edges_from members m.node plans) (live_of links) claimed are.rows routes m.addr dst n are.hops are.are hop in
-    let at = filtered (λ (z : Link). z.live) links l.1 l.0 l.2 in
-    (at.0, l.1, at.1, at.2, l.3)
 
 -- One after the other
 

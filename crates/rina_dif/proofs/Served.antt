@@ -85,7 +85,7 @@ posts_same cap now number hop None p p' s = house_is p _ p' s.new_is (record { l
 posts_same cap now number hop (Some cause) p p' s = house_is p _ p' s.1.new_is (off_house p _)
 
 -- on the link of a channel
-posts_on : (cap g_cap now : ℕ) (hop : Hop) (cause : Option Cause) (ps : List Process) (p p' : Process) (channel : Channel) → cap ≡ g_cap → slice_get ps channel.member ≡ Some p → IsLive ps channel → PostsFor cap now channel.number hop (Ok cause) p p' → PostsOn g_cap now hop.left ps channel hop.pdu cause (slice_set ps channel.member p')
+posts_on : (cap g_cap now : ℕ) (hop : Hop) (cause : Option Cause) (ps : List Process) (p p' : Process) (channel : Channel) → cap ≡ g_cap → slice_get ps channel.member ≡ Some p → (live : IsLive ps channel) → PostsFor cap now live.link.number hop (Ok cause) p p' → PostsOn g_cap now hop.left ps channel hop.pdu cause (slice_set ps channel.member p')
 posts_on cap g_cap now hop None ps p p' channel same is live s = record {
   process = p;
   place = s.place;
@@ -136,17 +136,17 @@ posted_at d lines below i place number hop cause ps lt h here posts =
     let x = posts p.0 p.1 in
     let cap = (h.housed i p.0 p.1).cap in
     let shown = shown_at d i p.0 p.1 in
-    let s : PostsFor p.0.queues.cap d.clock here.channel.number hop (Ok cause) (process_of p.0) (process_of x.0) = subst (λ (n : ℕ). PostsFor p.0.queues.cap d.clock n hop (Ok cause) (process_of p.0) (process_of x.0)) here.number_is x.1 in
+    let s : PostsFor p.0.queues.cap d.clock here.live.link.number hop (Ok cause) (process_of p.0) (process_of x.0) = subst (λ (n : ℕ). PostsFor p.0.queues.cap d.clock n hop (Ok cause) (process_of p.0) (process_of x.0)) here.number_is x.1 in
     let on = posts_on p.0.queues.cap (config_of d.settings).cap d.clock hop cause (seen_of d).processes (process_of p.0) (process_of x.0) here.channel cap (subst (λ (n : ℕ). slice_get (seen_of d).processes n ≡ Some (process_of p.0)) (sym here.member) shown) here.live s in
     record {
       process = p.0;
       is_process = p.1;
       process' = x.0;
       room = x.2;
-      same = posts_same p.0.queues.cap d.clock here.channel.number hop cause (process_of p.0) (process_of x.0) s;
+      same = posts_same p.0.queues.cap d.clock here.live.link.number hop cause (process_of p.0) (process_of x.0) s;
       are = x.3;
       posted = subst (λ (n : ℕ). PostsOn (config_of d.settings).cap d.clock hop.left (seen_of d).processes here.channel hop.pdu cause (slice_set (seen_of d).processes n (process_of x.0))) here.member on;
-      written = posts_lawful (seen_of d) i p.0.queues.cap d.clock here.channel.number hop cause (process_of p.0) (process_of x.0) cap shown s h.written_off;
+      written = posts_lawful (seen_of d) i p.0.queues.cap d.clock here.live.link.number hop cause (process_of p.0) (process_of x.0) cap shown s h.written_off;
     }
 
 -- An acknowledgement
@@ -241,7 +241,7 @@ no_link_again d below i place number links due tells =
 -- its link has a queue
 pub link_queue : (d : Dif) (lines : List Direction) (below : Seen) (i place number : ℕ) → Holds d lines below → IsLinkEnd d i place number → (p : IpcProcess) → slice_get d.processes i ≡ Some p → IsSome (place_there 0 number p.queues.queues.items)
 link_queue d lines below i place number h here p is =
-    let live = here.live in
+    let live = here.live.live in
     let same : live.process ≡ process_of p = same_some (slice_get (seen_of d).processes here.channel.member) live.process (process_of p) live.is_process (ap (slice_get (seen_of d).processes) here.member ∙ shown_at d i p is) in
     let stands : slice_get (process_of p).links live.place ≡ Some live.link = ap (λ (z : Process). slice_get z.links live.place) (sym same) ∙ live.stands in
     let has = (h.housed i p is).links live.place 0 live.link stands live.live (inl refl) in

@@ -171,7 +171,7 @@ decided d addr at since hop s end ps lt is_addr settles decides lines below h th
       housed = house.housed;
       managed = house.managed;
       enrolled = h.enrolled;
-      connected = λ down. kept_by (config_of d.settings) d.clock d.connections (seen_of d).processes (map process_of ps) down (λ may. subst (λ (z : DifSeen). LeavesLinks (seen_of d).processes z.processes) (sym (stepped d at x.0 ps x.3)) (decides_leave p.0.queues.cap d.clock addr (seen_of d).processes at (process_of p.0) since hop (Ok s) (process_of x.0) (shown_at d at p.0 p.1) (no_hop (config_of d.settings) d.settings.members d.laid.links d.clock d.processes d.managements at p.0 refl h.standing.aligned may.zero h.managed p.1) x.1));
+      connected = λ down. kept_by (config_of d.settings) d.clock d.connections (seen_of d).processes (map process_of ps) down (λ may. subst (λ (z : DifSeen). LeavesLinks (seen_of d).processes z.processes) (sym (stepped d at x.0 ps x.3)) (decides_leave p.0.queues.cap d.clock addr (seen_of d).processes at (process_of p.0) since hop (Ok s) (process_of x.0) (shown_at d at p.0 p.1) (no_hop (config_of d.settings) d.laid.is_static d.settings.members d.laid.links d.clock d.processes d.managements at p.0 refl h.standing.aligned may.zero h.managed p.1) x.1));
       flooded = λ f. f;
     }
 

@@ -52,12 +52,12 @@ managing d ms = record d { managements = ms }
 still_enrolled : (d : Dif) (ms : List Management) → states_of ms ≡ states_of d.managements → AreEnrolled d → AreEnrolled (managing d ms)
 still_enrolled d ms states h = enrolled_on d.laid.is_static d.settings.members d.settings.admits d.managements ms d.enrolled states h
 
-pub holds_managed : (d : Dif) (lines : List Direction) (below : Seen) (ms : List Management) → AreManagedBy d.settings.members d.laid.links d.clock d.processes ms → states_of ms ≡ states_of d.managements → (d.failed ≡ false → AreFlooding (managing d ms)) → Holds d lines below → Holds (managing d ms) lines below
+pub holds_managed : (d : Dif) (lines : List Direction) (below : Seen) (ms : List Management) → AreManagedBy d.laid.is_static d.settings.members d.laid.links d.clock d.processes ms → states_of ms ≡ states_of d.managements → (d.failed ≡ false → AreFlooding (managing d ms)) → Holds d lines below → Holds (managing d ms) lines below
 holds_managed d lines below ms managed states floods h = record { tied = h.tied; standing = h.standing; carrying = h.carrying; numbered = h.numbered; accounted = h.accounted; caused = h.caused; written_off = h.written_off; housed = h.housed; managed = managed; enrolled = still_enrolled d ms states h.enrolled; connected = h.connected; flooded = floods }
 
 -- with other objects
 pub holds_shown : (d : Dif) (lines : List Direction) (below : Seen) (ms : List Management) → agents_of ms ≡ agents_of d.managements → Holds d lines below → Holds (managing d ms) lines below
-holds_shown d lines below ms same h = holds_managed d lines below ms (managed_shown d.settings.members d.laid.links d.clock d.processes d.managements ms same h.managed) (states_agents d.managements ms same) (λ alive. same_agents d ms same (h.flooded alive)) h
+holds_shown d lines below ms same h = holds_managed d lines below ms (managed_shown d.laid.is_static d.settings.members d.laid.links d.clock d.processes d.managements ms same h.managed) (states_agents d.managements ms same) (λ alive. same_agents d ms same (h.flooded alive)) h
 
 -- One member shows other objects
 
@@ -88,7 +88,7 @@ binds_shown_all d d' lines below fixed ports app far ms name among are f = (let 
   bound = f.bound;
   a_port = f.a_port;
   b_port = f.b_port;
-  holds = holds_managed d' f.lines' below ms (managed_entered d'.settings.members d'.laid.links d'.clock d'.processes d'.managements ms app far.addr name (small_address d'.settings.members d'.laid.links f.holds.managed.laid_out far among) (binds_enrolled d d' lines below fixed ports f) f.holds.managed took) (states_entered app far.addr d'.managements ms took) (λ alive. entered_floods d' app far ms among (binds_enrolled d d' lines below fixed ports f) are (f.holds.flooded alive)) f.holds;
+  holds = holds_managed d' f.lines' below ms (managed_entered d'.laid.is_static d'.settings.members d'.laid.links d'.clock d'.processes d'.managements ms app far.addr name (small_address d'.settings.members d'.laid.links f.holds.managed.laid_out far among) f.holds.managed took) (states_entered app far.addr d'.managements ms took) (λ alive. entered_floods d' app far ms among (binds_enrolled d d' lines below fixed ports f) are (f.holds.flooded alive)) f.holds;
 })
 
 -- the managements were changed first, and then the flow was added
@@ -98,7 +98,7 @@ binds_managed d d1 d2 lines below fixed ports app far names name among whole res
     subst (BindsAt d lines below fixed ports) (sym is) (binds_shown_all d (record d { flows = d2.flows; ids = d2.ids; names = names }) lines below fixed ports app far d1.managements name among are f)
 
 -- an allocation failed, and the managements alone may have changed
-failed_holds : (d : Dif) (lines : List Direction) (below : Seen) (ms : List Management) → AreManagedBy d.settings.members d.laid.links d.clock d.processes ms → states_of ms ≡ states_of d.managements → Holds d lines below → Holds (record (managing d ms) { failed = true }) lines below
+failed_holds : (d : Dif) (lines : List Direction) (below : Seen) (ms : List Management) → AreManagedBy d.laid.is_static d.settings.members d.laid.links d.clock d.processes ms → states_of ms ≡ states_of d.managements → Holds d lines below → Holds (record (managing d ms) { failed = true }) lines below
 failed_holds d lines below ms managed states h = record { tied = h.tied; standing = h.standing; carrying = h.carrying; numbered = h.numbered; accounted = h.accounted; caused = h.caused; written_off = h.written_off; housed = h.housed; managed = managed; enrolled = still_enrolled d ms states h.enrolled; connected = h.connected; flooded = λ alive. absurd (false≢true (sym alive)) }
 
 -- before the managements changed
@@ -111,7 +111,7 @@ binds_failed d d1 d' fixed r e name may is why whole far same lines below h =
     let within = slice_get_within (map member_of members) may.at_b.place may.of_b may.at_b.stands in
     let member = there members may.at_b.place (omega (arith, within, length-map members member_of)) in
     let took = far may.at_b.place member.0 may.at_b.at_home member.1 in
-    let holds : Holds (record (managing d d1.managements) { failed = true }) lines below = failed_holds d lines below d1.managements (managed_entered members d.laid.links d.clock d.processes d.managements d1.managements fixed.b_app member.0.addr name (small_address members d.laid.links h.managed.laid_out member.0 (is_there members may.at_b.place member.0 member.1)) (all_are d lines below h (may_admit (drawn_at fixed.a d.flows.journal.ends) d.settings.admits d.settings.admits may.at_a.room refl)) h.managed took) (states_entered fixed.b_app member.0.addr d.managements d1.managements took) h in
+    let holds : Holds (record (managing d d1.managements) { failed = true }) lines below = failed_holds d lines below d1.managements (managed_entered d.laid.is_static members d.laid.links d.clock d.processes d.managements d1.managements fixed.b_app member.0.addr name (small_address members d.laid.links h.managed.laid_out member.0 (is_there members may.at_b.place member.0 member.1)) h.managed took) (states_entered fixed.b_app member.0.addr d.managements d1.managements took) h in
     let all : d' ≡ managing d d1.managements = same ∙ whole in
     subst (λ (v : Result (Port × Port) AllocateError). BindsTo d lines below fixed v (noting v d')) (sym (is ∙ ap (λ (z : AllocateError). Err z) why)) (ap seen_of all, subst (λ (z : Dif). Holds (record z { failed = true }) lines below) (sym all) holds)
 

@@ -1,6 +1,6 @@
 -- The managements of the members of a DIF as they start.
 use Rattle.std.proofs.Common.{◌≡◌, ◌∙◌, ℕ, zero, suc, ◌+◌, ◌*◌, ◌<◌, ◌≤◌, ◌^◌, ◌==◌, ◌&&◌, ◌||◌, Bool, true, false, cond, All, List, [], ◌∷◌, ◌++◌, get_or, length, map, slice_get, Option, Some, None, option_map, refl, sym, ap, subst, arith, inl, inr}
-use Rattle.std.specs.Prelude.{◌≢◌, Contains, count_by, filter, flat_map}
+use Rattle.std.specs.Prelude.{◌≢◌, Contains, IsSome, count_by, filter, find, flat_map, option_and_then, position}
 use Rattle.std.specs.List.{cons_option}
 use Rattle.std.proofs.lemmas.Bool.{eqb-true, false≢true}
 use Rattle.std.proofs.lemmas.List.{length-map}
@@ -18,7 +18,7 @@ use Rattle.rina_iface.specs.Seen.{Seen}
 use Rattle.rina_iface.proofs.Changed.{all_at}
 use Rattle.rina_iface.proofs.Grown.{pushed_at}
 use Rattle.rina_route.specs.declared.link.Link.{Link as Hop}
-use Rattle.rina_route.specs.Routes.{AreHops, AreRoutes, claims_of, counted, counts, is_claimed, is_up, turned}
+use Rattle.rina_route.specs.Routes.{AreHops, AreRoutes, claims_of, counted, counts, edge, is_claimed, is_up, turned}
 use Rattle.rina_pci.specs.Spelling.{IsWidth}
 use Rattle.rina_plan.specs.declared.dif.DifPlan.{DifPlan}
 use Rattle.rina_plan.specs.declared.dif.LinkPlan.{LinkPlan}
@@ -40,22 +40,24 @@ use Rattle.rina_data.specs.Configs.{config_of, member_of}
 use Rattle.rina_data.proofs.Finding.{there}
 use Rattle.rina_dif_law.specs.Numbered.{AreMembers}
 use Rattle.rina_dif_law.specs.Standing.{IsConfig}
-use Rattle.rina_member.specs.Knowing.{AreLive, AreNumbered, AreRoutesOf, IsLaidOut, Knows, hops_of}
-use Rattle.rina_member.specs.Routing.{edge_back, edge_there, edges_from, routes_to}
+use Rattle.rina_member.specs.Knowing.{AreLive, AreNumbered, AreRoutesOf, IsLaidOut, IsPlanned, Knows, hops_of}
+use Rattle.rina_member.specs.Routing.{addr_at, edge_back, edge_there, edges_from, live_links, routes_to}
 use Rattle.rina_member.specs.Objects.{first_objects}
-use Rattle.rina_member.specs.Start.{HasLinksIfStatic, items_held, started, starts_enrolled}
+use Rattle.rina_member.specs.Start.{HasLinksIfStatic, items_held, managed_link, started, starts_enrolled}
 use Rattle.rina_member.specs.Short.{AreNamed, HaveFewLinks}
 use Rattle.rina_member.proofs.Knowing.{starts_knowing, starts_routed}
 use Rattle.rina_member.proofs.Lists.{at_place}
+use Rattle.rina_member.proofs.Starting.{all_enrolled}
+use Rattle.rina_queue.proofs.Places.{first_passes}
 use Rattle.rina_dif.specs.declared.dif.Dif.{Dif}
 use Rattle.rina_dif.specs.Building.{AreBare}
 use Rattle.rina_dif.specs.Laying.{AreLaid, BindsAll, ends_of, links_from, ports_at}
-use Rattle.rina_dif.specs.Managing.{AreManagedBy, AreStarted, IsManaged, IsStarted}
+use Rattle.rina_dif.specs.Managing.{AreBounded, AreManagedBy, AreStarted, IsManaged, IsStarted}
 use Rattle.rina_dif.specs.Planned.{link_fixed, processes_before, settings_by}
 use Rattle.rina_dif.specs.Routing.{AreRouted, HaveFirstRoutes}
-use Rattle.rina_dif.specs.Telling.{TellsNeighbours}
+use Rattle.rina_member.specs.Short.{TellsNeighbours}
 use Rattle.rina_dif.proofs.Managed.{is_among, its_agent}
-use Rattle.rina_dif.proofs.Neighbours.{starts_near}
+use Rattle.rina_member.proofs.TellsNear.{starts_near}
 use Rattle.rina_dif.proofs.Sound.{planned}
 
 same_some : {X : Type 0} (xs : List X) (k : ℕ) (a b : X) → slice_get xs k ≡ Some a → slice_get xs k ≡ Some b → a ≡ b
@@ -204,22 +206,45 @@ no_links is_static members plans access m = no_begun (starts_enrolled is_static 
 no_link : (k : ℕ) (link : Link) → slice_get [] k ≡ Some link → ⊥
 no_link k link is = absurd cc
 
+-- What a member of a static DIF starts with
+
+first_links : (members : List Kept) (plans : List LinkPlan) (access : Rules) (m : Kept) (links : List Link) → Contains members m → (started true members plans access m links).links ≡ map managed_link (live_links members plans m links)
+unfolding started
+first_links members plans access m links among = ap (λ (b : Bool). cond b (map managed_link (live_links members plans m links)) []) (all_enrolled members m among)
+
+-- the links of the plan
+starts_planned : (is_static : Bool) (members : List Kept) (plans : List LinkPlan) (access : Rules) (m : Kept) (links : List Link) → Contains members m → AreNumbered links → is_static ≡ true → IsPlanned members plans m links (started is_static members plans access m links)
+starts_planned is_static members plans access m links among numbered still = record {
+  numbers = numbered;
+  links_are = ap (λ (b : Bool). (started b members plans access m links).links) still ∙ first_links members plans access m links among;
+}
+
+-- with the first numbers
+few_bounded : (links : List Link) → AreNumbered links → length links ≤ 16 → AreBounded links
+few_bounded links numbered few k link is =
+    let number = numbered k link is in
+    let within = slice_get_within links k link is in
+    omega (arith, number, within, few)
+
 -- a management without links knows all that there is to know of them
-bare_one : (is_static : Bool) (s : Settings) (now : ℕ) (rules : List Rule) (allow : Bool) (m : Kept) (p : IpcProcess) (g : Management) → IsLaidOut s.members [] → AreNamed s.members → Contains s.members m → p.links ≡ [] → p.routes ≡ [] → IsStarted is_static s.cubes s.members [] rules allow m p.links g → IsManaged s.members [] now m p g
+bare_one : (is_static : Bool) (s : Settings) (now : ℕ) (rules : List Rule) (allow : Bool) (m : Kept) (p : IpcProcess) (g : Management) → IsLaidOut s.members [] → AreNamed s.members → Contains s.members m → p.links ≡ [] → p.routes ≡ [] → IsStarted is_static s.cubes s.members [] rules allow m p.links g → IsManaged is_static s.members [] now m p g
 bare_one is_static s now rules allow m p g laid named among links routes one =
     let is : g.agent ≡ started is_static s.members [] one.access m [] = one.is ∙ ap (started is_static s.members [] one.access m) links in
-    let knows : Knows s.members [] now m [] (started is_static s.members [] one.access m []) = starts_knowing is_static s.members [] one.access m [] now laid (λ dynamic. refl) among (λ k link at. absurd (no_link k link at)) (λ k link at. absurd (no_link k link at)) (omega arith) in
+    let numbered : AreNumbered [] = λ k link at. absurd (no_link k link at) in
+    let knows : Knows now m [] (started is_static s.members [] one.access m []) = starts_knowing is_static s.members [] one.access m [] now laid (λ dynamic. refl) among numbered (λ k link at. absurd (no_link k link at)) refl in
     record {
-      knows = subst (λ (ls : List Link). Knows s.members [] now m ls g.agent) (sym links) (subst (Knows s.members [] now m []) (sym is) knows);
+      knows = subst (λ (ls : List Link). Knows now m ls g.agent) (sym links) (subst (Knows now m []) (sym is) knows);
+      planned = λ still. subst (λ (ls : List Link). IsPlanned s.members [] m ls g.agent) (sym links) (subst (IsPlanned s.members [] m []) (sym is) (starts_planned is_static s.members [] one.access m [] among numbered still));
+      bounded = subst AreBounded (sym links) (few_bounded [] numbered (omega arith));
       routes = subst (AreRoutesOf g.agent s.members) (sym routes) (none_of g.agent s.members (ap (λ (z : Agent). hops_of z.links) is ∙ no_links is_static s.members [] one.access m));
       tells = subst (λ (z : Agent). TellsNeighbours z) (sym is) (starts_near is_static s.members [] one.access m [] laid named (λ x has. omega arith) among (omega arith));
     }
 
-pub bare_managed : (is_static : Bool) (s : Settings) (plans : List LinkPlan) (rules : List Rule) (allow : Bool) (now : ℕ) (ps : List IpcProcess) (managements : List Management) → plans ≡ [] → AreBare s ps → IsConfig (config_of s) → AreMembers (config_of s) → AreNamed s.members → AreStarted is_static s.cubes s.members plans rules allow (length s.members) ps managements → AreManagedBy s.members plans now ps managements
+pub bare_managed : (is_static : Bool) (s : Settings) (plans : List LinkPlan) (rules : List Rule) (allow : Bool) (now : ℕ) (ps : List IpcProcess) (managements : List Management) → plans ≡ [] → AreBare s ps → IsConfig (config_of s) → AreMembers (config_of s) → AreNamed s.members → AreStarted is_static s.cubes s.members plans rules allow (length s.members) ps managements → AreManagedBy is_static s.members plans now ps managements
 bare_managed is_static s plans rules allow now ps managements none bare config members named so =
     let laid : IsLaidOut s.members [] = laid_out s [] config members (λ k d lt. absurd (omega (arith, lt))) in
     let so' : AreStarted is_static s.cubes s.members [] rules allow (length s.members) ps managements = subst (λ (ls : List LinkPlan). AreStarted is_static s.cubes s.members ls rules allow (length s.members) ps managements) none so in
-    subst (λ (ls : List LinkPlan). AreManagedBy s.members ls now ps managements) (sym none) (record {
+    subst (λ (ls : List LinkPlan). AreManagedBy is_static s.members ls now ps managements) (sym none) (record {
       laid_out = laid;
       aligned = so'.aligned;
       each = λ k m p g is_m is_p is_g. (let b = bare.each k p is_p in bare_one is_static s now rules allow m p g laid named (is_among s.members k m is_m) b.links b.routes (so'.each k m p g is_m is_p is_g));
@@ -245,16 +270,6 @@ pub length_from : (n : ℕ) (ports : List Port) → length (links_from n ports) 
 length_from n [] = refl
 length_from n (p ∷ ps) = (let e = length_from (n + 1) ps in omega (arith, e))
 
--- each edge of a member has a port
-enough_by : (a b : Bool) (x y : Option Edge) (es : List Edge) (p q : Port) (ports : List Port) → length es ≤ length ports → length (cons_option (cond a x (cond b y None)) es) ≤ length (cond a (p ∷ cond b (q ∷ ports) ports) (cond b (q ∷ ports) ports))
-enough_by true true None y es p q ports le = omega (arith, le)
-enough_by true true (Some x) y es p q ports le = omega (arith, le)
-enough_by true false None y es p q ports le = omega (arith, le)
-enough_by true false (Some x) y es p q ports le = omega (arith, le)
-enough_by false true x None es p q ports le = omega (arith, le)
-enough_by false true x (Some y) es p q ports le = omega (arith, le)
-enough_by false false x y es p q ports le = le
-
 -- the ends of each link are on different nodes
 AreCrossing : List LinkPlan → Type 0
 AreCrossing links = (k : ℕ) (l : LinkPlan) → slice_get links k ≡ Some l → l.a ≢ l.b
@@ -274,16 +289,67 @@ here_of : (node a b : ℕ) (p q : Port) (ports : List Port) → p.node ≡ a →
 here_of node a b p q ports is_a is_b =
     ap (λ (c : Bool). cond c (p ∷ ports_at node (q ∷ ports)) (ports_at node (q ∷ ports))) (ap (λ (n : ℕ). n == node) is_a) ∙ ap (λ (c : Bool). cond (a == node) (p ∷ cond c (q ∷ ports_at node ports) (ports_at node ports)) (cond c (q ∷ ports_at node ports) (ports_at node ports))) (ap (λ (n : ℕ). n == node) is_b)
 
-pub enough : (plan : Plan) (d : DifPlan) (members : List Kept) (node : ℕ) (links : List LinkPlan) (ports : List (Port × Port)) (old new : Seen) → BindsAll old (map (link_fixed plan d) links) ports new → length (edges_from members node links) ≤ length (ports_at node (ends_of ports))
-enough plan d members node [] [] old new b = omega arith
-enough plan d members node [] (p ∷ ps) old new b = absurd b
-enough plan d members node (l ∷ ls) [] old new b = absurd b
-enough plan d members node (l ∷ ls) (p ∷ ps) old new b =
-    let rest = enough plan d members node ls ps b.0 new b.2 in
+-- members stand at both ends of each
+AreHome : List Kept → List (Port × Port) → Type 0
+AreHome members ports = (k : ℕ) (pair : Port × Port) → slice_get ports k ≡ Some pair → IsSome (addr_at members pair.0.node) × IsSome (addr_at members pair.1.node)
+
+found_step : (b : Bool) (m : Kept) (o : Option Kept) → IsSome o → IsSome (cond b (Some m) o)
+found_step true m o some = refl
+found_step false m o some = some
+
+found_at : (p : Kept → Bool) (members : List Kept) (k : ℕ) (m : Kept) → slice_get members k ≡ Some m → p m ≡ true → IsSome (find p members)
+found_at p [] k m is has = absurd cc
+found_at p (x ∷ members) zero m is has =
+    let same : x ≡ m = cc in
+    subst (λ (b : Bool). IsSome (cond b (Some x) (find p members))) (sym (ap p same ∙ has)) refl
+found_at p (x ∷ members) (suc k) m is has = found_step (p x) x (find p members) (found_at p members k m is has)
+
+found_by : (p : Kept → Bool) (members : List Kept) (o : Option ℕ) → position p members ≡ o → IsSome o → IsSome (find p members)
+found_by p members None is some = absurd (false≢true some)
+found_by p members (Some k) is some = (let m = first_passes p members k is in found_at p members k m.0 m.1.stands m.1.passes)
+
+addressed : (o : Option Kept) → IsSome o → IsSome (option_map (λ (m : Kept). m.addr) o)
+addressed None some = some
+addressed (Some m) some = refl
+
+has_addr : (members : List Kept) (node : ℕ) → IsSome (position (λ (m : Kept). m.node == node) members) → IsSome (addr_at members node)
+has_addr members node some = addressed (find (λ (m : Kept). m.node == node) members) (found_by (λ (m : Kept). m.node == node) members (position (λ (m : Kept). m.node == node) members) refl some)
+
+are_home : (plan : Plan) (d : DifPlan) (s : Settings) (links : List LinkPlan) (old new : Seen) (ports : List (Port × Port)) (ps : List IpcProcess) → AreLaid plan d s links old new ports ps → AreHome s.members ports
+unfolding AreHome
+are_home plan d s links old new ports ps laid k pair is = (let one = laid.flows k pair is in (has_addr s.members pair.0.node one.home, has_addr s.members pair.1.node one.far_home))
+
+-- so both ends claim it
+claimed_by : (weight : ℕ) (from to : Option ℕ) → IsSome from → IsSome to → IsSome (option_and_then (λ x. option_map (λ y. edge x y weight) to) from)
+claimed_by weight None to some other = absurd (false≢true some)
+claimed_by weight (Some x) None some other = absurd (false≢true other)
+claimed_by weight (Some x) (Some y) some other = refl
+
+-- and each port of a member has an edge
+enough_by : (a b : Bool) (x y : Option Edge) (es : List Edge) (p q : Port) (ports : List Port) → (a ≡ true → b ≡ true → ⊥) → IsSome x → IsSome y → length es ≡ length ports → length (cons_option (cond a x (cond b y None)) es) ≡ length (cond a (p ∷ cond b (q ∷ ports) ports) (cond b (q ∷ ports) ports))
+enough_by true true x y es p q ports one to back same = absurd (one refl refl)
+enough_by true false None y es p q ports one to back same = absurd (false≢true to)
+enough_by true false (Some x) y es p q ports one to back same = omega (arith, same)
+enough_by false true x None es p q ports one to back same = absurd (false≢true back)
+enough_by false true x (Some y) es p q ports one to back same = omega (arith, same)
+enough_by false false x y es p q ports one to back same = same
+
+as_many : (plan : Plan) (d : DifPlan) (members : List Kept) (node : ℕ) (links : List LinkPlan) (ports : List (Port × Port)) (old new : Seen) → AreCrossing links → AreHome members ports → BindsAll old (map (link_fixed plan d) links) ports new → length (edges_from members node links) ≡ length (ports_at node (ends_of ports))
+unfolding AreCrossing AreHome
+as_many plan d members node [] [] old new cross home b = refl
+as_many plan d members node [] (p ∷ ps) old new cross home b = absurd b
+as_many plan d members node (l ∷ ls) [] old new cross home b = absurd b
+as_many plan d members node (l ∷ ls) (p ∷ ps) old new cross home b =
+    let rest = as_many plan d members node ls ps b.0 new (λ k x is. cross (suc k) x is) (λ k x is. home (suc k) x is) b.2 in
     let is_a : p.0.node ≡ l.a = ap (λ (z : Port). z.node) b.1.a_fresh in
     let is_b : p.1.node ≡ l.b = ap (λ (z : Port). z.node) b.1.b_fresh in
-    let one = enough_by (l.a == node) (l.b == node) (edge_there members l) (edge_back members l) (edges_from members node ls) p.0 p.1 (ports_at node (ends_of ps)) rest in
-    subst (λ (z : List Port). length (edges_from members node (l ∷ ls)) ≤ length z) (sym (here_of node l.a l.b p.0 p.1 (ends_of ps) is_a is_b)) one
+    let at = home 0 p refl in
+    let at_a : IsSome (addr_at members l.a) = subst (λ (n : ℕ). IsSome (addr_at members n)) is_a at.0 in
+    let at_b : IsSome (addr_at members l.b) = subst (λ (n : ℕ). IsSome (addr_at members n)) is_b at.1 in
+    let there = claimed_by l.weight (addr_at members l.a) (addr_at members l.b) at_a at_b in
+    let back = claimed_by l.weight (addr_at members l.b) (addr_at members l.a) at_b at_a in
+    let one = enough_by (l.a == node) (l.b == node) (edge_there members l) (edge_back members l) (edges_from members node ls) p.0 p.1 (ports_at node (ends_of ps)) (not_both l node (cross 0 l refl)) there back rest in
+    subst (λ (z : List Port). length (edges_from members node (l ∷ ls)) ≡ length z) (sym (here_of node l.a l.b p.0 p.1 (ends_of ps) is_a is_b)) one
 
 few : (plan : Plan) (d : DifPlan) (node : ℕ) (links : List LinkPlan) (ports : List (Port × Port)) (old new : Seen) → AreCrossing links → BindsAll old (map (link_fixed plan d) links) ports new → length (ports_at node (ends_of ports)) ≤ count_by (has_link_end node) links
 unfolding AreCrossing
@@ -321,6 +387,9 @@ are_crossing plan i dif sound at k l is =
     let fit = all_at (λ (d : DifPlan). All (IsFitLink (map wire_ends plan.wires) plan.difs d) d.links) plan.difs i dif sound.joints at in
     (all_at (IsFitLink (map wire_ends plan.wires) plan.difs dif) dif.links k l fit is).apart
 
+pub enough : (plan : Plan) (i : ℕ) (dif : DifPlan) (s : Settings) (old new : Seen) (ports : List (Port × Port)) (ps : List IpcProcess) (node : ℕ) → IsPlan plan → slice_get plan.difs i ≡ Some dif → AreLaid plan dif s dif.links old new ports ps → length (edges_from s.members node dif.links) ≡ length (ports_at node (ends_of ports))
+enough plan i dif s old new ports ps node sound at laid = as_many plan dif s.members node dif.links ports old new (are_crossing plan i dif sound at) (are_home plan dif s dif.links old new ports ps laid) laid.bound
+
 few_links : (plan : Plan) (i : ℕ) (dif : DifPlan) (k : ℕ) (m : Kept) (ports : List (Port × Port)) (old new : Seen) → IsPlan plan → slice_get plan.difs i ≡ Some dif → slice_get (settings_by plan i dif).members k ≡ Some m → BindsAll old (map (link_fixed plan dif) dif.links) ports new → length (ports_at m.node (ends_of ports)) ≤ 16
 few_links plan i dif k m ports old new sound at is b =
     let x = planned plan dif (processes_before plan.difs i) dif.members k (member_of m) (seen_at (settings_by plan i dif).members k m is) in
@@ -330,10 +399,10 @@ few_links plan i dif k m ports old new sound at is b =
     omega (arith, here, one)
 
 -- so has each of them
-all_few : (plan : Plan) (i : ℕ) (dif : DifPlan) (s : Settings) (ports : List (Port × Port)) (old new : Seen) → IsPlan plan → slice_get plan.difs i ≡ Some dif → s ≡ settings_by plan i dif → BindsAll old (map (link_fixed plan dif) dif.links) ports new → HaveFewLinks s.members dif.links
-all_few plan i dif s ports old new sound at are b m among =
-    let most = few_links plan i dif among.0 m ports old new sound at (ap (λ (z : Settings). slice_get z.members among.0) (sym are) ∙ at_place s.members m among) b in
-    let all = enough plan dif s.members m.node dif.links ports old new b in
+all_few : (plan : Plan) (i : ℕ) (dif : DifPlan) (s : Settings) (ports : List (Port × Port)) (ps : List IpcProcess) (old new : Seen) → IsPlan plan → slice_get plan.difs i ≡ Some dif → s ≡ settings_by plan i dif → AreLaid plan dif s dif.links old new ports ps → HaveFewLinks s.members dif.links
+all_few plan i dif s ports ps old new sound at are laid m among =
+    let most = few_links plan i dif among.0 m ports old new sound at (ap (λ (z : Settings). slice_get z.members among.0) (sym are) ∙ at_place s.members m among) laid.bound in
+    let all = enough plan i dif s old new ports ps m.node sound at laid in
     omega (arith, most, all)
 
 -- a DIF that is not static has no links
@@ -351,10 +420,10 @@ no_ports plan i dif ports old new sound at b dynamic = none_bound old new (map (
 
 -- each was made of the links that were laid, and then the next hops were read from it
 pub made_managed : (plan : Plan) (i : ℕ) (dif : DifPlan) (d : Dif) (old new : Seen) (laid_ports : List (Port × Port)) (linked : List IpcProcess) → IsPlan plan → slice_get plan.difs i ≡ Some dif → d.settings ≡ settings_by plan i dif → IsConfig (config_of d.settings) → AreMembers (config_of d.settings) → AreNamed d.settings.members → AreLaid plan dif d.settings dif.links old new laid_ports linked
-    → AreStarted dif.is_static d.settings.cubes d.settings.members dif.links dif.rules dif.allow (length d.settings.members) linked d.managements → AreRouted d.settings.members d.managements (length d.managements) linked d.processes → AreManagedBy d.settings.members dif.links d.clock d.processes d.managements
+    → AreStarted dif.is_static d.settings.cubes d.settings.members dif.links dif.rules dif.allow (length d.settings.members) linked d.managements → AreRouted d.settings.members d.managements (length d.managements) linked d.processes → AreManagedBy dif.is_static d.settings.members dif.links d.clock d.processes d.managements
 made_managed plan i dif d old new laid_ports linked sound at are config members named laid so routed =
     let out : IsLaidOut d.settings.members dif.links = laid_out d.settings dif.links config members (weighs plan i dif sound at) in
-    let fewest : HaveFewLinks d.settings.members dif.links = all_few plan i dif d.settings laid_ports old new sound at are laid.bound in
+    let fewest : HaveFewLinks d.settings.members dif.links = all_few plan i dif d.settings laid_ports linked old new sound at are laid in
     record {
       laid_out = out;
       aligned = so.aligned;
@@ -366,15 +435,18 @@ made_managed plan i dif d old new laid_ports linked sound at are config members 
           let links : p.links ≡ links_from 0 ports = ap (λ (z : IpcProcess). z.links) q.3 ∙ up.links in
           let is : g.agent ≡ started dif.is_static d.settings.members dif.links one.access m (links_from 0 ports) = one.is ∙ ap (started dif.is_static d.settings.members dif.links one.access m) up.links in
           let count = length_from 0 ports in
-          let all : length (edges_from d.settings.members m.node dif.links) ≤ length ports = enough plan dif d.settings.members m.node dif.links laid_ports old new laid.bound in
+          let all = enough plan i dif d.settings old new laid_ports linked m.node sound at laid in
           let most : length ports ≤ 16 = few_links plan i dif k m laid_ports old new sound at (ap (λ (s : Settings). slice_get s.members k) (sym are) ∙ is_m) laid.bound in
-          let knows : Knows d.settings.members dif.links d.clock m (links_from 0 ports) (started dif.is_static d.settings.members dif.links one.access m (links_from 0 ports)) =
-          starts_knowing dif.is_static d.settings.members dif.links one.access m (links_from 0 ports) d.clock out (λ dynamic. ap (λ (ps : List (Port × Port)). links_from 0 (ports_at m.node (ends_of ps))) (no_ports plan i dif laid_ports old new sound at laid.bound dynamic)) (is_among d.settings.members k m is_m) (are_numbered ports) (are_live ports) (omega (arith, all, count)) in
+          let among = is_among d.settings.members k m is_m in
+          let knows : Knows d.clock m (links_from 0 ports) (started dif.is_static d.settings.members dif.links one.access m (links_from 0 ports)) =
+          starts_knowing dif.is_static d.settings.members dif.links one.access m (links_from 0 ports) d.clock out (λ dynamic. ap (λ (ps : List (Port × Port)). links_from 0 (ports_at m.node (ends_of ps))) (no_ports plan i dif laid_ports old new sound at laid.bound dynamic)) among (are_numbered ports) (are_live ports) (all ∙ sym count) in
           let within = slice_get_within d.managements k g is_g in
           record {
-            knows = subst (λ (ls : List Link). Knows d.settings.members dif.links d.clock m ls g.agent) (sym links) (subst (Knows d.settings.members dif.links d.clock m (links_from 0 ports)) (sym is) knows);
+            knows = subst (λ (ls : List Link). Knows d.clock m ls g.agent) (sym links) (subst (Knows d.clock m (links_from 0 ports)) (sym is) knows);
+            planned = λ still. subst (λ (ls : List Link). IsPlanned d.settings.members dif.links m ls g.agent) (sym links) (subst (IsPlanned d.settings.members dif.links m (links_from 0 ports)) (sym is) (starts_planned dif.is_static d.settings.members dif.links one.access m (links_from 0 ports) among (are_numbered ports) still));
+            bounded = subst AreBounded (sym links) (few_bounded (links_from 0 ports) (are_numbered ports) (omega (arith, most, count)));
             routes = routed.routes k g p within is_g is_p;
-            tells = subst (λ (z : Agent). TellsNeighbours z) (sym is) (starts_near dif.is_static d.settings.members dif.links one.access m (links_from 0 ports) out named fewest (is_among d.settings.members k m is_m) (omega (arith, most, count)));
+            tells = subst (λ (z : Agent). TellsNeighbours z) (sym is) (starts_near dif.is_static d.settings.members dif.links one.access m (links_from 0 ports) out named fewest among (omega (arith, most, count)));
           };
     }
 
@@ -388,7 +460,7 @@ started_still is_static cubes members plans rules allow linked ps managements so
 }
 
 -- so their next hops are over the links of the plan
-pub first_routed : (is_static : Bool) (cubes : List Cube) (members : List Kept) (plans : List LinkPlan) (rules : List Rule) (allow : Bool) (now : ℕ) (ps : List IpcProcess) (managements : List Management) → HasLinksIfStatic is_static plans → AreManagedBy members plans now ps managements → AreStarted is_static cubes members plans rules allow (length members) ps managements → HaveFirstRoutes members plans ps
+pub first_routed : (is_static : Bool) (cubes : List Cube) (members : List Kept) (plans : List LinkPlan) (rules : List Rule) (allow : Bool) (now : ℕ) (ps : List IpcProcess) (managements : List Management) → HasLinksIfStatic is_static plans → AreManagedBy is_static members plans now ps managements → AreStarted is_static cubes members plans rules allow (length members) ps managements → HaveFirstRoutes members plans ps
 first_routed is_static cubes members plans rules allow now ps managements bare h so k m p is here =
     let g = its_agent members managements k m h.aligned is in
     let one = so.each k m p g.0 is here g.1 in

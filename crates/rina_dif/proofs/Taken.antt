@@ -2,6 +2,8 @@
 use Rattle.std.proofs.Common.{◌≡◌, ◌∙◌, ℕ, ◌<◌, Bool, List, length, slice_get, option_map, Option, Some, None, Result, Ok, Err, refl, sym, ap, subst, false, true, inl, inr}
 use Rattle.std.specs.Prelude.{◌↔◌, IsSome}
 use Rattle.std.proofs.lemmas.Option.{slice_get-map}
+use Rattle.rina_agent.specs.declared.state.AgentError.{AgentError}
+use Rattle.rina_agent.specs.declared.state.AgentError.TheVariants as agent
 use Rattle.rina_base.specs.declared.number.Key.{Key}
 use Rattle.rina_base.specs.declared.number.Port.{Port}
 use Rattle.rina_base.specs.Pdus.{key_of}
@@ -43,7 +45,8 @@ use Rattle.rina_dif.specs.Holding.{Holds, LinksStand}
 use Rattle.rina_dif.specs.Routing.{MayReroute}
 use Rattle.rina_dif.specs.Shown.{seen_of}
 use Rattle.rina_dif.specs.Steps.{AtHome}
-use Rattle.rina_dif.specs.Taking.{Handles, HandlesPiece, HasTaken, InsAt, IsOldest, IsThere, MayBring, TakesFor, TakesHome, TakesIn, TakesLinks}
+use Rattle.rina_dif.specs.Managing.{nodes_with}
+use Rattle.rina_dif.specs.Taking.{BringsAs, Handles, HandlesPiece, HasTaken, InsAt, IsOldest, IsThere, LacksFor, MayBring, TakesFor, TakesHome, TakesIn, TakesLinks}
 use Rattle.rina_dif.proofs.Causing.{ins_caused}
 use Rattle.rina_dif.proofs.Handling.{handled_seen}
 use Rattle.rina_dif.proofs.Leaves.{shown_at}
@@ -176,6 +179,7 @@ handled_reroutes at n (Some w) taken lines' below' d' h s =
       process = process_of a.process;
       is_process = shown_at taken at a.process a.is_process;
       routes = a.routes;
+      nodes = nodes_with taken at a.after;
       is = ap seen_of a.only ∙ handled_seen taken at w.place n a.here a.management a.after a.is_management a.process a.is_process a.routes d'.connections.flows;
     })
 handled_reroutes at n None taken lines' below' d' h same = inl (ap seen_of same)
@@ -198,6 +202,26 @@ took_and_handled d lines below at n since p link hop key end taken below' found 
       rerouted = handled_reroutes at n found taken t.lines' below' d' t.holds s;
       holds = handled_stands at n found taken t.lines' below' d' t.holds s;
     }
+
+-- for what it makes whole the member has too few counts left
+lacks_counts : (d : Dif) (lines : List Direction) (below : Seen) (at n since : ℕ) (p : IpcProcess) (link : Link) (hop : Hop) (need left : ℕ) → slice_get d.processes at ≡ Some p → link_by n p.links ≡ Some link → IsOldest (config_of d.settings) below link.port since hop → LacksFor d at n since link.port hop need left → Holds d lines below → TakesIn d lines below at n (Err (CountSpent need left)) d below
+lacks_counts d lines below at n since p link hop need left is is_link oldest lacks h = record {
+  lines' = lines;
+  taken = d;
+  does = (refl, refl, refl);
+  links = λ links. refl;
+  managed = refl;
+  handles = (record { process = p; is_process = is; link = link; is_link = is_link; since = since; hop = hop; is_oldest = oldest; lacks = lacks }, refl);
+  rerouted = inl refl;
+  holds = h;
+}
+
+-- as the error tells it
+pub lacks_told : (d : Dif) (lines : List Direction) (below : Seen) (at n since : ℕ) (p : IpcProcess) (link : Link) (hop : Hop) (e : AgentError) (need left need' left' : ℕ) → e ≡ agent.CountSpent need left → need' ≡ need → left' ≡ left → slice_get d.processes at ≡ Some p → link_by n p.links ≡ Some link → IsOldest (config_of d.settings) below link.port since hop → BringsAs d at n since link.port hop (Err e) → Holds d lines below → TakesIn d lines below at n (Err (CountSpent need' left')) d below
+lacks_told d lines below at n since p link hop e need left need' left' err needs lefts is is_link oldest brings h =
+    subst (λ (k : ℕ). TakesIn d lines below at n (Err (CountSpent k left')) d below) (sym needs)
+    (subst (λ (k : ℕ). TakesIn d lines below at n (Err (CountSpent need k)) d below) (sym lefts)
+    (lacks_counts d lines below at n since p link hop need left is is_link oldest (subst (λ (z : AgentError). BringsAs d at n since link.port hop (Err z)) err brings) h))
 
 -- By node
 
@@ -236,9 +260,15 @@ none_failed : (failed : Bool) (x : InStep) → failed ≡ true ↔ (Ok x ≡ Err
 none_failed false x noted = refl
 none_failed true x noted = (let wrong : Ok x ≡ Err Memory = noted.0 refl in absurd cc)
 
-all_home : (o : Option ℕ) (P Q : Type 0) → (P → Q) → AtHome o (λ k. P) P → AtHome o (λ k. Q) Q
-all_home (Some k) P Q f p = f p
-all_home None P Q f p = f p
+both_home : (o : Option ℕ) (P Q : ℕ → Type 0) (X Y : Type 0) → ((k : ℕ) → P k → Q k) → (X → Y) → AtHome o P X → AtHome o Q Y
+both_home (Some k) P Q X Y f g p = f k p
+both_home None P Q X Y f g p = g p
+
+noted_handles : (d : Dif) (below : Seen) (i n : ℕ) (e : StepError) (taken d' : Dif) (below' : Seen) (failed : Bool) → Handles d below i n (Err e) taken below' d' → Handles d below i n (Err e) (record taken { failed = failed }) below' (record d' { failed = failed })
+noted_handles d below i n Memory taken d' below' failed same = ap (λ (z : Dif). record z { failed = failed }) same
+noted_handles d below i n NoIpc taken d' below' failed same = ap (λ (z : Dif). record z { failed = failed }) same
+noted_handles d below i n NoLink taken d' below' failed same = ap (λ (z : Dif). record z { failed = failed }) same
+noted_handles d below i n (CountSpent need left) taken d' below' failed h = (h.0, ap (λ (z : Dif). record z { failed = failed }) h.1)
 
 -- and whether an allocation failed is noted
 home_noted : (d : Dif) (lines : List Direction) (below : Seen) (node n : ℕ) (r : Result InStep StepError) (d' : Dif) (failed : Bool) (below' : Seen) → d'.failed ≡ false → failed ≡ true ↔ (r ≡ Err Memory) → TakesHome d lines below node n r d' below' → TakesHome d lines below node n r (record d' { failed = failed }) below'
@@ -250,7 +280,7 @@ home_noted d lines below node n (Err e) d' failed below' alive noted t = record 
   does = t.does;
   links = t.links;
   managed = t.managed;
-  handles = all_home (home node (config_of d.settings).members) (d' ≡ t.taken) (record d' { failed = failed } ≡ record t.taken { failed = failed }) (λ same. ap (λ (z : Dif). record z { failed = failed }) same) t.handles;
+  handles = both_home (home node (config_of d.settings).members) (λ i. Handles d below i n (Err e) t.taken below' d') (λ i. Handles d below i n (Err e) (record t.taken { failed = failed }) below' (record d' { failed = failed })) (d' ≡ t.taken) (record d' { failed = failed } ≡ record t.taken { failed = failed }) (λ i h. noted_handles d below i n e t.taken d' below' failed h) (λ same. ap (λ (z : Dif). record z { failed = failed }) same) t.handles;
   rerouted = t.rerouted;
   holds = record { tied = t.holds.tied; standing = t.holds.standing; carrying = t.holds.carrying; numbered = t.holds.numbered; accounted = t.holds.accounted; caused = t.holds.caused; written_off = t.holds.written_off; housed = t.holds.housed; managed = t.holds.managed; enrolled = t.holds.enrolled; connected = t.holds.connected; flooded = λ still. t.holds.flooded alive };
 }

@@ -4,13 +4,13 @@ use Rattle.std.specs.Prelude.{IfSome, IsSome, OnErr, position}
 use Rattle.std.proofs.lemmas.Bool.{false≢true}
 use Rattle.std.proofs.lemmas.Option.{slice_get-get_or, slice_get_read, slice_get_within}
 use Rattle.rina_member.specs.declared.management.Management.{Management}
+use Rattle.rina_agent.specs.declared.agent.Agent.{Agent}
 use Rattle.rina_agent.specs.Rows.{lost as loses_link}
 use Rattle.rina_base.specs.declared.memory.Memory.{Memory}
 use Rattle.rina_base.specs.declared.number.Port.{Port}
 use Rattle.rina_iface.specs.Seen.{Seen}
 use Rattle.rina_iface.proofs.Changed.{set_at, slice_get-set_same}
 use Rattle.rina_law.specs.Direction.{Direction}
-use Rattle.rina_plan.specs.declared.dif.LinkPlan.{LinkPlan}
 use Rattle.rina_data.specs.declared.link.Link.{Link}
 use Rattle.rina_data.specs.declared.link.Route.{Route}
 use Rattle.rina_data.specs.declared.loss.Lost.{Lost}
@@ -29,9 +29,7 @@ use Rattle.rina_dif_law.proofs.Linkless.{lost_carries, lost_numbered, lost_stand
 use Rattle.rina_dif_law.proofs.Warranted.{lost_written}
 use Rattle.rina_dif.specs.declared.dif.Dif.{Dif}
 use Rattle.rina_dif.specs.Holding.{AreHoused, HasQueues, HaveQueues, Holds, IsHoused, Stands}
-use Rattle.rina_graph.specs.declared.graph.Edge.{Edge}
-use Rattle.rina_member.specs.Knowing.{AreRoutesOf, all_claims}
-use Rattle.rina_member.specs.Routing.{AreRoutesOver, live_links}
+use Rattle.rina_member.specs.Knowing.{AreRoutesOf, Knows}
 use Rattle.rina_dif.specs.Shown.{seen_of}
 use Rattle.rina_dif.specs.declared.processes.LinkLoss.{LinkLoss}
 use Rattle.rina_dif.specs.Closing.{ClosesIn, ClosesOn, FindsOpen, held_at}
@@ -41,10 +39,10 @@ use Rattle.rina_dif.proofs.Closing.{HasClosed, link_closed, open_conn, open_end}
 use Rattle.rina_dif.proofs.Causing.{process_caused}
 use Rattle.rina_dif.proofs.Keeping.{home_set, house_is, position_map, same_house, set_cases}
 use Rattle.rina_dif.proofs.Leaves.{has_process, shown_at, stepped}
-use Rattle.rina_member.proofs.Knowing.{loses_state}
-use Rattle.rina_dif.proofs.Enrolled.{enrolled_on, states_set}
-use Rattle.rina_dif.proofs.Managed.{IsLoss, IsWithout, is_among, its_agent, loss_known, managed_lost}
-use Rattle.rina_dif.proofs.Routed.{live_hop}
+use Rattle.rina_member.proofs.Knowing.{knows_live}
+use Rattle.rina_member.proofs.Losing.{loses_enrolled}
+use Rattle.rina_dif.proofs.Enrolled.{lost_in, same_enrolled}
+use Rattle.rina_dif.proofs.Managed.{IsLoss, IsWithout, its_agent, loses_managed, managed_lost}
 use Rattle.rina_dif.proofs.Settling.{holds_unseen, unseen}
 use Rattle.rina_channel.proofs.Frame.{other_pdus_stand}
 use Rattle.rina_channel.proofs.Leaving.{losing_leaves}
@@ -92,17 +90,17 @@ have_after g p place link routes is have k qos l at live known = elim (set_at p.
   | inr f ↦ subst (λ (o : Option ℕ). IsSome o) (sym (emptied_places qos l.number link p.queues)) (have k qos l f.1 live known)
 ]
 
-hop_after : (g : Config) (members : List Member) (plans : List LinkPlan) (member : Member) (claimed : List Edge) (p : Process) → HaveQueues g p → AreRoutesOver member.addr (live_links members plans member p.links) claimed members p.routes → HasQueues g p
-hop_after g members plans member claimed p have are dst n qos hop known =
-    let l = live_hop members plans member p.links claimed p.routes dst n are hop in
-    subst (λ (m : ℕ). IsSome (queue_place qos m p.queues)) l.4 (have l.0 qos l.1 l.2 l.3 known)
+hop_after : (g : Config) (now : ℕ) (member : Member) (agent : Agent) (members : List Member) (p : Process) → HaveQueues g p → Knows now member p.links agent → AreRoutesOf agent members p.routes → HasQueues g p
+hop_after g now member agent members p have knows are dst n qos hop known =
+    let l = knows_live now member p.links agent members p.routes dst n knows are hop in
+    subst (λ (m : ℕ). IsSome (queue_place qos m p.queues)) l.is_number (have l.place qos l.link l.stands l.live known)
 
-housed_after : (g : Config) (ps : List IpcProcess) (at : ℕ) (p p' : IpcProcess) (place : ℕ) (link : Link) (routes : List Route) (members : List Member) (plans : List LinkPlan) (member : Member) (claimed : List Edge) → AreHoused g ps → slice_get ps at ≡ Some p → queue_settings p' ≡ queue_settings p → slice_get p.links place ≡ Some link → process_of p' ≡ without_link place link routes (process_of p)
-    → AreRoutesOver member.addr (live_links members plans member (slice_set p.links place (record link { live = false }))) claimed members routes → AreHoused g (slice_set ps at p')
-housed_after g ps at p p' place link routes members plans member claimed housed is room there new are =
+housed_after : (g : Config) (ps : List IpcProcess) (at : ℕ) (p p' : IpcProcess) (place : ℕ) (link : Link) (routes : List Route) (now : ℕ) (member : Member) (agent : Agent) (members : List Member) → AreHoused g ps → slice_get ps at ≡ Some p → queue_settings p' ≡ queue_settings p → slice_get p.links place ≡ Some link → process_of p' ≡ without_link place link routes (process_of p)
+    → Knows now member (slice_set p.links place (record link { live = false })) agent → AreRoutesOf agent members routes → AreHoused g (slice_set ps at p')
+housed_after g ps at p p' place link routes now member agent members housed is room there new knows are =
     let old = housed at p is in
     let have = have_after g (process_of p) place link routes there old.links in
-    let has = hop_after g members plans member claimed (without_link place link routes (process_of p)) have are in
+    let has = hop_after g now member agent members (without_link place link routes (process_of p)) have knows are in
     set_cases (IsHoused g) ps at p' (record { cap = ap (λ (s : QueueSettings). s.cap) room ∙ old.cap; links = subst (HaveQueues g) (sym new) have; queues = subst (HasQueues g) (sym new) has }) housed
 
 -- The DIF holds
@@ -128,7 +126,7 @@ link_lost d lines below at lost routes member p p' g g' is_member is is_g goes a
     let members = d.settings.members in
     let plans = d.laid.links in
     let loss : IsLoss d.clock members g g' link routes = record { loses = subst (λ (n : ℕ). loses_link g.agent d.clock n ≡ Ok g'.agent) f.2 goes; routes = are } in
-    let known : AreRoutesOver member.addr (live_links members plans member (links_without p.links lost.place link)) (all_claims g'.agent.items) members routes = loss_known members plans d.clock d.processes d.managements at member p g g' lost.place link routes h.managed is_member is is_g there f.1.lost.live loss in
+    let known : Knows d.clock member (links_without p.links lost.place link) g'.agent = loses_managed d.laid.is_static members plans d.clock d.processes d.managements at member p g g' lost.place link routes h.managed is_member is is_g there f.1.lost.live loss in
     let ps : List IpcProcess = slice_set d.processes at p' in
     let mid : Dif = record d { processes = ps; managements = slice_set d.managements at g' } in
     let d' : DifSeen = seen_of mid in
@@ -149,9 +147,9 @@ link_lost d lines below at lost routes member p p' g g' is_member is is_g goes a
         accounted = lost_accounted (seen_of d) lines below at lost.number routes d' h.accounted gone;
         caused = process_caused (seen_of d) d' below at _ gone.new_is h.caused;
         written_off = lost_written (seen_of d) lines below at lost.number routes d' h.standing h.written_off gone;
-        housed = housed_after (config_of d.settings) d.processes at p p' lost.place link routes members plans member (all_claims g'.agent.items) h.housed is room there new known;
-        managed = managed_lost members plans d.clock d.processes d.managements at member p p' g g' lost.place link routes h.managed is_member is is_g there f.1.lost.live loss (ap (λ (z : Process). z.links) new) (ap (λ (z : Process). z.routes) new);
-        enrolled = enrolled_on d.laid.is_static d.settings.members d.settings.admits d.managements (slice_set d.managements at g') d.enrolled (states_set d.managements at g g' is_g (loses_state members plans d.clock member p.links g.agent g'.agent lost.place link h.managed.laid_out (is_among members at member is_member) (h.managed.each at member p g is_member is is_g).knows there f.1.lost.live loss.loses)) h.enrolled;
+        housed = housed_after (config_of d.settings) d.processes at p p' lost.place link routes d.clock member g'.agent members h.housed is room there new known are;
+        managed = managed_lost d.laid.is_static members plans d.clock d.processes d.managements at member p p' g g' lost.place link routes h.managed is_member is is_g there f.1.lost.live loss (ap (λ (z : Process). z.links) new) (ap (λ (z : Process). z.routes) new);
+        enrolled = same_enrolled d at g g' h.enrolled is_g (lost_in d.clock lost.number g.agent g'.agent goes) (loses_enrolled d.clock lost.number g.agent g'.agent goes);
         connected = kept_by (config_of d.settings) d.clock d.connections (seen_of d).processes d'.processes below (λ may. losing_leaves (seen_of d) below at lost.number routes d' gone) h.connected;
         flooded = λ alive. lost_floods d at lost.number member p g g' lost.place link h.managed h.connected.each is_member is is_g there f.1.lost.live (sym f.2) goes (h.flooded alive);
       };

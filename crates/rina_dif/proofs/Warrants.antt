@@ -95,10 +95,17 @@ ins_at_noted d lines below node n (Err NoIpc) d' lines' below' st s = by_home _ 
 ins_at_noted d lines below node n (Err NoLink) d' lines' below' st s = by_home _ (home node d.config.members) (λ i. Ins d lines below i n (Err NoLink) d' lines' below') _ (λ i o. ins_noted d lines below i n (Err NoLink) d' lines' below' st o) (λ o. same_noted _ d d' o.1) s
 ins_at_noted d lines below node n (Err (CountSpent need left)) d' lines' below' st s = by_home _ (home node d.config.members) (λ i. Ins d lines below i n (Err (CountSpent need left)) d' lines' below') _ (λ i o. ins_noted d lines below i n (Err (CountSpent need left)) d' lines' below' st o) (λ o. same_noted _ d d' o.1) s
 
--- other next hops write nothing
+-- other next hops write nothing, nor do other enrolled members
+enrolled_noted : (holds : ℕ → Off → Type 0) (d new : DifSeen) (nodes : List ℕ) → IsNoted holds d new → IsNoted holds d (record new { enrolled = nodes })
+enrolled_noted holds d new nodes n = record { config = n.config; manage = n.manage; clock = n.clock; conns = n.conns; each = n.each }
+
 rerouted_noted : (holds : ℕ → Off → Type 0) (d d' : DifSeen) → MayReroute d d' → IsNoted holds d d'
 rerouted_noted holds d d' (inl same) = same_noted holds d d' same
-rerouted_noted holds d d' (inr r) = process_noted holds d d' r.place r.process (record r.process { routes = r.routes }) [] r.is r.is_process (sym (append-nil r.process.ledger)) (λ off none. absurd none) (ports_same r.process.links r.process.links refl)
+rerouted_noted holds d d' (inr r) =
+    let after : Process = record r.process { routes = r.routes } in
+    let new : DifSeen = with_process d r.place after in
+    let noted = process_noted holds d new r.place r.process after [] refl r.is_process (sym (append-nil r.process.ledger)) (λ off none. absurd none) (ports_same r.process.links r.process.links refl) in
+    subst (IsNoted holds d) (sym r.is) (enrolled_noted holds d new r.nodes noted)
 
 pub ins_at_write : (d : Dif) (lines : List Direction) (below : Seen) (node n : ℕ) (r : Result InStep StepError) (d' : Dif) (below' : Seen) → Holds d lines below → TakesHome d lines below node n r d' below' → Writes (MayWriteOff (seen_of d) lines below NoPort) (seen_of d) (seen_of d')
 ins_at_write d lines below node n r d' below' h s =

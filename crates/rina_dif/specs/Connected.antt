@@ -1,6 +1,7 @@
 -- When the management connections of a DIF's links stand.
 use Rattle.std.specs.Prelude.{◌≡◌, ℕ, List, slice_get, Some}
 use Rattle.rina_base.specs.declared.number.Port.{Port}
+use Rattle.rina_channel.specs.declared.channel.Attachment.{Attachment}
 use Rattle.rina_channel.specs.declared.channel.Channel.{Channel}
 use Rattle.rina_channel.specs.Channels.{ChannelsSeen, HasLive, seen_of}
 use Rattle.rina_channel.specs.FlowLaws.{HasNoZero}
@@ -25,13 +26,15 @@ pub record CanManage (g : Config) (manage : Cube) : Type 0 where
   pub managed : IsManaged g manage
   pub zero : HasNoZero g
 
--- the link of this number of the IPC process of place i has its channel
+-- the link of this number of the IPC process of place i has its channel, which is attached to it
 pub record HasConnection (channels : List Channel) (i number : ℕ) : Type 0 where
   pub place : ℕ
   pub channel : Channel
   pub is_channel : slice_get channels place ≡ Some channel
   pub member_is : channel.member ≡ i
-  pub number_is : channel.number ≡ number
+  pub attached : Attachment
+  pub attached_is : channel.link ≡ Some attached
+  pub number_is : attached.number ≡ number
 
 -- so has each live link
 abbrev pub LinksAreConnected : List Channel → List Process → Type 0

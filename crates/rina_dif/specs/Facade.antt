@@ -29,6 +29,7 @@ use Rattle.rina_flows.specs.Tied.{ids_of}
 use Rattle.rina_member.specs.declared.management.Management.{Management}
 use Rattle.rina_dif.specs.declared.dif.Dif.{Dif}
 use Rattle.rina_dif.specs.Holding.{Holds, Passes, Stands}
+use Rattle.rina_dif.specs.Managing.{StayEnrolled}
 use Rattle.rina_dif.specs.Shown.{seen_of}
 
 -- the rank shows the DIF as its facility n
@@ -116,12 +117,12 @@ pub record PassesAt (d : Dif) (lines : List Direction) (port : Port) (d' : Dif) 
 
 -- What a rank needs of each call
 
--- the DIF has gone on as a facility, with what it keeps of its flows; who is enrolled stays so, and no other member is
+-- the DIF has gone on as a facility, with what it keeps of its flows; who is enrolled stays so
 pub record GoesOn (d d' : Dif) : Type 0 where
   pub later : IsLaterFac d.clock d'.clock (fac_of (seen_of d)) (fac_of (seen_of d'))
   pub facility : IsFacility (seen_of d')
   pub clock : d'.clock ≡ d.clock
-  pub enrolled : d'.enrolled ≡ d.enrolled
+  pub enrolled : StayEnrolled d.enrolled d'.enrolled
 
 -- it stands wherever it stood
 abbrev pub StaysStanding : Dif → Dif → Type 0

@@ -1,8 +1,9 @@
 -- The members of a DIF as a network in which what one of them makes is flooded to all.
 use Rattle.std.specs.Prelude.{◌≡◌, ℕ, false, List, [], map, slice_get, take, Option, Some, None}
+use Rattle.rina_channel.specs.declared.channel.Attachment.{Attachment}
 use Rattle.rina_channel.specs.declared.channel.Channel.{Channel}
 use Rattle.rina_flood.specs.Members.{IsRunOf, MembersSeen}
-use Rattle.rina_flood.specs.Network.{There}
+use Rattle.rina_flood.specs.Network.{EndState, There, Unmade}
 use Rattle.rina_flood.specs.Static.{LinkEnd}
 use Rattle.rina_iface.specs.declared.ends.End.{End}
 use Rattle.rina_law.specs.declared.entry.Entry.{Entry}
@@ -22,10 +23,15 @@ abbrev pub handled_at : Option End → List (List ℕ)
 handled_at None = []
 handled_at (Some end) = texts_of (take end.taken end.got)
 
--- the end of a link, at the place of its channel. Each has its number from the start and keeps it, so that no other link gets the number of a
--- lost one
+-- what became of an end: it is not made before its channel is attached. Then it has its number and keeps it, so that no other link gets the
+-- number of a lost one
+abbrev pub state_by : Option Attachment → EndState
+state_by None = Unmade
+state_by (Some attached) = There attached.number
+
+-- the end of a link, at the place of its channel
 abbrev pub link_end : Channel → LinkEnd
-link_end c = record { member = c.member; state = There c.number }
+link_end c = record { member = c.member; state = state_by c.link }
 
 -- what stands of the members of a DIF: their agents, the ends of their links, and by the place of an end the messages
 abbrev pub members_seen : Dif → MembersSeen

@@ -8,7 +8,7 @@ use Rattle.rina_flood.specs.Network.{Side, after_rows}
 use Rattle.rina_iface.specs.Seen.{Seen}
 use Rattle.rina_law.specs.Direction.{Direction}
 use Rattle.rina_member.specs.declared.management.Management.{Management}
-use Rattle.rina_member.specs.Knowing.{ClaimLinks}
+use Rattle.rina_member.specs.Knowing.{ClaimLinks, hops_of}
 use Rattle.rina_member.specs.Routing.{live_links}
 use Rattle.rina_newest.specs.declared.item.Item.{Item}
 use Rattle.rina_newest.specs.Newest.{IsNewest, kept_at, value_at}
@@ -40,7 +40,7 @@ MembersAgree = (d : Dif) (lines : List Direction) (below : Seen) (i j : ℕ) (st
     → ((key : List ℕ) → kept_at m.agent.items key ≡ kept_at n.agent.items key) × ((d.laid.is_static ≡ true) ⊎ (steps ≡ [] → ⊥) → value_at n.agent.items (link_key first.addr) ≡ Some (link_state None m.agent.links))
 
 -- Where all is quiet on a walk of links, the items of the member at its one end claim, from the address of the member at the other, the
--- live links of its IPC process and no others
+-- links that are up there, with known neighbours, and no others. In a static DIF those are the live links of its IPC process
 abbrev pub QuietMembersKnowLinks : Type 0
 QuietMembersKnowLinks = (d : Dif) (lines : List Direction) (below : Seen) (i j : ℕ) (steps : List (ℕ × Side × ℕ)) (first last : Member) (m n : Management) (p : IpcProcess) → IsMemberOf d lines below i first m → IsMemberOf d lines below j last n → slice_get d.processes i ≡ Some p → IsQuietPath (members_seen d) i steps j
-    → ClaimLinks n.agent.items first.addr (live_links d.settings.members d.laid.links first p.links)
+    → ClaimLinks n.agent.items first.addr (hops_of m.agent.links) × (d.laid.is_static ≡ true → hops_of m.agent.links ≡ live_links d.settings.members d.laid.links first p.links)

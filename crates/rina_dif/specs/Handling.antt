@@ -1,6 +1,8 @@
 -- What a PDU that came on a link brings to the management of a member: the SDUs that it makes whole are passed and handled in the
 -- same step, and the next hops follow what the member then holds.
-use Rattle.std.specs.Prelude.{◌≡◌, ℕ, suc, zero, ◌-◌, ◌^◌, ◌++◌, min, List, [], ◌∷◌, drop, length, slice_get, slice_set, Option, Some, None, Ok}
+use Rattle.std.specs.Prelude.{◌≡◌, ◌⊎◌, ℕ, suc, zero, ◌-◌, ◌^◌, ◌++◌, min, List, [], ◌∷◌, drop, length, slice_get, slice_set, Option, Some, None, Result, Ok, Err}
+use Rattle.rina_agent.specs.declared.state.AgentError.{AgentError}
+use Rattle.rina_agent.specs.declared.state.AgentError.TheVariants.{CountSpent, Memory}
 use Rattle.rina_base.specs.declared.pdu.Pdu.{Pdu}
 use Rattle.rina_conn.specs.declared.conn.Conn.{Conn}
 use Rattle.rina_dtp.specs.Stands.{IsAhead}
@@ -15,6 +17,7 @@ use Rattle.rina_data.specs.declared.link.Route.{Route}
 use Rattle.rina_data.specs.declared.process.IpcProcess.{IpcProcess}
 use Rattle.rina_data.specs.Configs.{Config}
 use Rattle.rina_dif_law.specs.Ids.{Ids}
+use Rattle.rina_flood.specs.Network.{is_in}
 use Rattle.rina_flows.specs.declared.flows.Flows.{Flows}
 use Rattle.rina_flows.specs.Calls.{AreTied, SameIds}
 use Rattle.rina_flows.specs.Rows.{PassedAt}
@@ -24,6 +27,7 @@ use Rattle.rina_dif.specs.declared.messages_in.Handled.{Handled}
 use Rattle.rina_dif.specs.Flooding.{texts_of}
 use Rattle.rina_dif.specs.Holding.{Holds, LinksStand}
 use Rattle.rina_dif.specs.LinkDue.{IsLinkEnd}
+use Rattle.rina_dif.specs.Managing.{nodes_with}
 use Rattle.rina_dif.specs.Messaging.{manage_config}
 use Rattle.rina_dif.specs.Routing.{with_routes}
 
@@ -49,6 +53,22 @@ abbrev pub HandlesInTurn : ℕ → ℕ → List (List ℕ) → Management → Ma
 HandlesInTurn now number [] m m' = m' ≡ m
 HandlesInTurn now number (sdu ∷ sdus) m m' = (mid : Management) × HandlesOne now number sdu m mid × HandlesInTurn now number sdus mid m'
 
+-- for one of them the member has too few version counts or invoke ids left, once it handled those before
+abbrev pub LacksInTurn : ℕ → ℕ → ℕ → ℕ → List (List ℕ) → Management → Type 0
+LacksInTurn now number need left [] m = ⊥
+LacksInTurn now number need left (sdu ∷ sdus) m = HandlesSdu now number sdu m (Err (CountSpent need left)) ⊎ ((mid : Management) × HandlesOne now number sdu m mid × LacksInTurn now number need left sdus mid)
+
+-- what handling one of them answers
+abbrev pub AnswersOne : ℕ → ℕ → List ℕ → Management → Result Management AgentError → Type 0
+AnswersOne now number sdu m (Ok m') = HandlesOne now number sdu m m'
+AnswersOne now number sdu m (Err e) = HandlesSdu now number sdu m (Err e)
+
+-- and what handling all of them does; nothing is told where memory ran out
+abbrev pub AnswersInTurn : ℕ → ℕ → List (List ℕ) → Management → Result Management AgentError → Type 0
+AnswersInTurn now number sdus m (Ok m') = HandlesInTurn now number sdus m m'
+AnswersInTurn now number sdus m (Err (CountSpent need left)) = LacksInTurn now number need left sdus m
+AnswersInTurn now number sdus m (Err Memory) = Unit {0}
+
 -- Before a piece is taken
 
 -- these are the bytes of the SDUs that a piece would make whole at the end of a place
@@ -61,6 +81,22 @@ pub record IsToldAhead (d : Dif) (place : ℕ) (its : Pdu) (bodies : List (List 
 abbrev pub HandlesAhead : Dif → ℕ → ℕ → ℕ → Pdu → Management → Type 0
 HandlesAhead d i place number its after = (m : Management) (end : End) → slice_get d.managements i ≡ Some m → At d.connections.flows.journal.ends place end →
     (bodies : List (List ℕ)) × IsToldAhead d place its bodies × HandlesInTurn d.clock number (unpassed_sdus end ++ bodies) m after
+
+-- for one of them the member has too few version counts or invoke ids left
+abbrev pub LacksAhead : Dif → ℕ → ℕ → ℕ → Pdu → ℕ → ℕ → Type 0
+LacksAhead d i place number its need left = (m : Management) (end : End) → slice_get d.managements i ≡ Some m → At d.connections.flows.journal.ends place end →
+    (bodies : List (List ℕ)) × IsToldAhead d place its bodies × LacksInTurn d.clock number need left (unpassed_sdus end ++ bodies) m
+
+-- what that answers
+abbrev pub AnswersAhead : Dif → ℕ → ℕ → ℕ → Pdu → Result Management AgentError → Type 0
+AnswersAhead d i place number its (Ok after) = HandlesAhead d i place number its after
+AnswersAhead d i place number its (Err (CountSpent need left)) = LacksAhead d i place number its need left
+AnswersAhead d i place number its (Err Memory) = Unit {0}
+
+-- the nodes of the enrolled members once the member of place i is managed so; none are told where it is enrolled exactly as before
+abbrev pub TellsNodes : Dif → ℕ → Management → Option (List ℕ) → Type 0
+TellsNodes d i after (Some nodes) = nodes ≡ nodes_with d i after
+TellsNodes d i after None = (m : Management) → slice_get d.managements i ≡ Some m → is_in after.agent.state ≡ is_in m.agent.state
 
 -- The connection
 
@@ -81,15 +117,17 @@ pub record PassesAll (d : Dif) (links : List Direction) (place : ℕ) (flows' : 
 
 -- Both
 
--- what a member is once it handled all that came to the end of its link of this number and is not passed, and its next hops over the
--- items that it then holds
+-- what a member is once it handled all that came to the end of its link of this number and is not passed, its next hops over the
+-- items that it then holds, and who is enrolled then
 pub record IsHandled (d : Dif) (i number : ℕ) (h : Handled) : Type 0 where
   pub here : IsLinkEnd d i h.place number
   pub handles : (m : Management) (end : End) → slice_get d.managements i ≡ Some m → At d.connections.flows.journal.ends h.place end → HandlesInTurn d.clock number (unpassed_sdus end) m h.management
   pub routes : AreRoutesOf h.management.agent d.settings.members h.routes
+  pub enrolled : TellsNodes d i h.management h.enrolled
 
 -- the end at a place of the management connection of the link of this number, at the IPC process of place i, passes all SDUs that
--- came to it; the member handles them in turn; and the next hops of the IPC process are over the items that the member then holds
+-- came to it; the member handles them in turn; the next hops of the IPC process are over the items that the member then holds; and the
+-- DIF knows who is enrolled then
 pub record HandlesAll (d : Dif) (links : List Direction) (i place number : ℕ) (d' : Dif) : Type 0 where
   pub here : IsLinkEnd d i place number
   pub management : Management
@@ -105,6 +143,7 @@ pub record HandlesAll (d : Dif) (links : List Direction) (i place number : ℕ) 
     connections = record d.connections { flows = d'.connections.flows };
     managements = slice_set d.managements i after;
     processes = slice_set d.processes i (with_routes process routes);
+    enrolled = nodes_with d i after;
   }
 
 -- so it does, whichever directions stand behind the connections, and the DIF holds

@@ -6,6 +6,7 @@ use Rattle.rina_iface.specs.Journal.{At}
 use Rattle.rina_law.specs.Direction.{Direction}
 use Rattle.rina_data.specs.declared.link.Link.{Link}
 use Rattle.rina_data.specs.Configs.{config_of}
+use Rattle.rina_channel.specs.declared.channel.Attachment.{Attachment}
 use Rattle.rina_channel.specs.declared.channel.Channel.{Channel}
 use Rattle.rina_channel.specs.Channels.{IsLive}
 use Rattle.rina_channel.specs.Names.{link_config}
@@ -19,17 +20,17 @@ use Rattle.rina_dif.specs.Shown.{seen_of}
 
 -- Where an item is due
 
--- a link is live, and that of a channel
-unfoldable pub is_link_of : Channel → Link → Bool
-is_link_of c l = l.live && (l.number == c.number) && (l.port.fac == c.port.fac) && (l.port.node == c.port.node) && (l.port.n == c.port.n)
+-- a link is live, and the one of an attachment
+unfoldable pub is_link_of : Attachment → Link → Bool
+is_link_of a l = l.live && (l.number == a.number) && (l.port.fac == a.port.fac) && (l.port.node == a.port.node) && (l.port.n == a.port.n)
 
 -- the end at a place is allocated, and its link is a live one of the IPC process of place i, with this number
 pub record IsLinkEnd (d : Dif) (i place number : ℕ) : Type 0 where
   pub channel : Channel
   pub stands : slice_get d.connections.channels place ≡ Some channel
   pub member : channel.member ≡ i
-  pub number_is : number ≡ channel.number
   pub live : IsLive (seen_of d).processes channel
+  pub number_is : number ≡ live.link.number
   pub end : End
   pub is_end : At d.connections.flows.journal.ends place end
   pub allocated : end.state ≡ Allocated

@@ -9,6 +9,7 @@ use Rattle.rina_base.specs.declared.pdu.Pdu.{Pdu}
 use Rattle.rina_iface.specs.Free.{IsFreed}
 use Rattle.rina_iface.specs.Seen.{Seen}
 use Rattle.rina_law.specs.Sender.{given_up}
+use Rattle.rina_channel.specs.declared.channel.Attachment.{Attachment}
 use Rattle.rina_channel.specs.declared.channel.Channel.{Channel}
 use Rattle.rina_flows.specs.Timely.{IsNumberDue}
 use Rattle.rina_law.specs.Direction.{Direction}
@@ -73,8 +74,10 @@ pub record GivesUpLink (d : Dif) (links : List Direction) (below : Seen) (place 
   pub num_is : num ≡ record { cep = 0; seq = due.number }
   pub channel : Channel
   pub stands : slice_get d.connections.channels place ≡ Some channel
+  pub attached : Attachment
+  pub attached_is : channel.link ≡ Some attached
   pub both : Bool
-  pub freed : IsFreed both below channel.port below'
+  pub freed : IsFreed both below attached.port below'
   pub same : (new ≡ seen_of d) × (flows' ≡ d.connections.flows)
 
 -- the connection of a place does what a step tells, at the IPC process of place i. Nothing changes below but where it gives a number up

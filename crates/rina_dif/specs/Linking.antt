@@ -1,7 +1,8 @@
 -- How the links of a new DIF get their management connections.
-use Rattle.std.specs.Prelude.{◌≡◌, ℕ, suc, ◌^◌, ◌<◌, ◌==◌, ◌&&◌, Bool, List, [], ◌∷◌, ◌++◌, length, map, position, slice_get, Some}
+use Rattle.std.specs.Prelude.{◌≡◌, ℕ, suc, ◌^◌, ◌<◌, ◌==◌, ◌&&◌, Bool, List, [], ◌∷◌, ◌++◌, length, map, position, slice_get, Option, Some, option_map}
 use Rattle.rina_base.specs.declared.number.FlowName.{FlowName}
 use Rattle.rina_base.specs.declared.number.Port.{Port}
+use Rattle.rina_channel.specs.declared.channel.Attachment.{Attachment}
 use Rattle.rina_channel.specs.declared.channel.Channel.{Channel}
 use Rattle.rina_cube.specs.declared.Cube.{Cube}
 use Rattle.rina_data.specs.declared.link.Link.{Link}
@@ -35,7 +36,11 @@ pub record AreLinks (s : Settings) (clock : ℕ) (ports : List (Port × Port)) (
 unfoldable pub is_on : Port → Link → Bool
 is_on port l = (l.port.fac == port.fac) && (l.port.node == port.node) && (l.port.n == port.n)
 
--- the channel is that of the link with this port, at the member of the port's node
+-- the port below of a channel that is attached
+abbrev pub port_of : Channel → Option Port
+port_of channel = option_map (λ (a : Attachment). a.port) channel.link
+
+-- the channel is attached to the link with this port, at the member of the port's node
 pub record IsChannelOf (s : Settings) (processes : List IpcProcess) (port : Port) (partner : ℕ) (channel : Channel) : Type 0 where
   pub home : position (λ (m : Member). m.node == port.node) s.members ≡ Some channel.member
   pub process : IpcProcess
@@ -44,8 +49,7 @@ pub record IsChannelOf (s : Settings) (processes : List IpcProcess) (port : Port
   pub link : Link
   pub stands : slice_get process.links place ≡ Some link
   pub on_port : link.port ≡ port
-  pub number_is : channel.number ≡ link.number
-  pub port_is : channel.port ≡ port
+  pub attached : channel.link ≡ Some (record { number = link.number; port = port })
   pub partner_is : channel.partner ≡ partner
 
 -- such a link is there
@@ -69,9 +73,9 @@ pub record Connects (s : Settings) (processes : List IpcProcess) (clock : ℕ) (
   pub near_member : Member
   pub far_member : Member
   pub asker : End
-  pub asker_is : asker ≡ new_end (name_at clock place) Asker near.port near_member.name far_member.name 0 Allocated
+  pub asker_is : asker ≡ new_end (name_at clock place) Asker pair.0 near_member.name far_member.name 0 Allocated
   pub end : End
-  pub end_is : end ≡ new_end (name_at clock place) Far far.port far_member.name near_member.name 0 Allocated
+  pub end_is : end ≡ new_end (name_at clock place) Far pair.1 far_member.name near_member.name 0 Allocated
   pub manage_is : new.manage ≡ old.manage
   pub channels_are : new.channels ≡ old.channels ++ near ∷ far ∷ []
   pub ends_are : new.flows.journal.ends ≡ old.flows.journal.ends ++ asker ∷ end ∷ []
@@ -88,8 +92,8 @@ pub record IsOpen (e : End) : Type 0 where
 -- the connections of links with these ports: both ends of each, one after the other
 pub record HaveConnections (s : Settings) (manage : Cube) (ports : List (Port × Port)) (processes : List IpcProcess) (c : Connections) : Type 0 where
   pub manage_is : c.manage ≡ manage
-  pub ports_are : map (λ (x : Channel). x.port) c.channels ≡ ends_of ports
-  pub links : (k : ℕ) (x : Channel) → slice_get c.channels k ≡ Some x → IsChannelOf s processes x.port x.partner x
+  pub ports_are : map port_of c.channels ≡ map Some (ends_of ports)
+  pub links : (k : ℕ) (x : Channel) (port : Port) → slice_get c.channels k ≡ Some x → port_of x ≡ Some port → IsChannelOf s processes port x.partner x
   pub alike : length c.flows.journal.ends ≡ length c.channels
   pub unused : (k : ℕ) (e : End) → slice_get c.flows.journal.ends k ≡ Some e → IsOpen e
 

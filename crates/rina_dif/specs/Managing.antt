@@ -1,5 +1,5 @@
 -- The managements of the members of a DIF: from the start, and at every moment.
-use Rattle.std.specs.Prelude.{◌≡◌, ℕ, Bool, true, false, List, All, length, map, slice_get, Option, Some, None, if◌then◌else◌}
+use Rattle.std.specs.Prelude.{◌≡◌, ◌<◌, ℕ, Bool, true, false, List, All, length, map, slice_get, slice_set, Option, Some, None, if◌then◌else◌}
 use Rattle.std.specs.List.{filter_map, zip}
 use Rattle.rina_access.specs.declared.rules.Rule.{Rule}
 use Rattle.rina_access.specs.declared.rules.Rules.{Rules}
@@ -8,16 +8,17 @@ use Rattle.rina_agent.specs.declared.state.MemberState.{MemberState}
 use Rattle.rina_agent.specs.declared.state.MemberState.TheVariants.{Enrolled}
 use Rattle.rina_cube.specs.declared.Cube.{Cube}
 use Rattle.rina_flood.specs.Network.{is_in}
+use Rattle.rina_iface.specs.Seen.{is_member}
 use Rattle.rina_plan.specs.declared.dif.LinkPlan.{LinkPlan}
 use Rattle.rina_data.specs.declared.link.Link.{Link}
 use Rattle.rina_data.specs.declared.process.IpcProcess.{IpcProcess}
 use Rattle.rina_data.specs.declared.settings.Member.{Member}
-use Rattle.rina_member.specs.Knowing.{AreRoutesOf, IsLaidOut, Knows}
+use Rattle.rina_member.specs.Knowing.{AreRoutesOf, IsLaidOut, IsPlanned, Knows}
 use Rattle.rina_member.specs.declared.management.Management.{Management}
 use Rattle.rina_member.specs.Objects.{first_objects}
+use Rattle.rina_member.specs.Short.{TellsNeighbours}
 use Rattle.rina_member.specs.Start.{items_held, started}
 use Rattle.rina_dif.specs.declared.dif.Dif.{Dif}
-use Rattle.rina_dif.specs.Telling.{TellsNeighbours}
 
 -- From the start
 
@@ -59,25 +60,39 @@ pub record AreEnrolledBy (is_static : Bool) (members : List Member) (admits : �
   pub all : is_static ≡ true → All (λ state. state ≡ Enrolled) states
   pub unfixed : is_static ≡ false → admits ≡ 0
 
+-- who is enrolled stays so: of two lists of nodes the second has each of the first
+abbrev pub StayEnrolled : List ℕ → List ℕ → Type 0
+StayEnrolled old new = (node : ℕ) → is_member old node ≡ true → is_member new node ≡ true
+
 -- so a DIF knows its own
 abbrev pub AreEnrolled : Dif → Type 0
 AreEnrolled d = AreEnrolledBy d.laid.is_static d.settings.members d.settings.admits (states_of d.managements) d.enrolled
 
--- at a tick, the management of a member knows the live links of its IPC process; the next hops of the IPC process are over the items
--- that the management holds: the first links of least walks over the edges that the link states of both ends claim; and the member tells
--- short messages to its neighbours alone
-pub record IsManaged (members : List Member) (plans : List LinkPlan) (now : ℕ) (m : Member) (p : IpcProcess) (g : Management) : Type 0 where
-  pub knows : Knows members plans now m p.links g.agent
+-- the nodes of the enrolled members once the member at a place is managed so
+abbrev pub nodes_with : Dif → ℕ → Management → List ℕ
+nodes_with d at after = enrolled_nodes d.settings.members (states_of (slice_set d.managements at after))
+
+-- each link has one of the first 16 numbers: no more links are live at once
+abbrev pub AreBounded : List Link → Type 0
+AreBounded links = (k : ℕ) (link : Link) → slice_get links k ≡ Some link → link.number < 16
+
+-- at a tick, the management of a member knows the live links of its IPC process, in a static DIF those of the plan; the next hops of the IPC
+-- process are over the items that the management holds: the first links of least walks over the edges that the link states of both ends
+-- claim; and the member tells short messages to its neighbours alone
+pub record IsManaged (is_static : Bool) (members : List Member) (plans : List LinkPlan) (now : ℕ) (m : Member) (p : IpcProcess) (g : Management) : Type 0 where
+  pub knows : Knows now m p.links g.agent
+  pub planned : is_static ≡ true → IsPlanned members plans m p.links g.agent
+  pub bounded : AreBounded p.links
   pub routes : AreRoutesOf g.agent members p.routes
   pub tells : TellsNeighbours g.agent
 
 -- the members and links are as a plan may lay them out, each member has a management at its place, and each IPC process
 -- is managed so
-pub record AreManagedBy (members : List Member) (plans : List LinkPlan) (now : ℕ) (processes : List IpcProcess) (managements : List Management) : Type 0 where
+pub record AreManagedBy (is_static : Bool) (members : List Member) (plans : List LinkPlan) (now : ℕ) (processes : List IpcProcess) (managements : List Management) : Type 0 where
   pub laid_out : IsLaidOut members plans
   pub aligned : length managements ≡ length members
-  pub each : (k : ℕ) (m : Member) (p : IpcProcess) (g : Management) → slice_get members k ≡ Some m → slice_get processes k ≡ Some p → slice_get managements k ≡ Some g → IsManaged members plans now m p g
+  pub each : (k : ℕ) (m : Member) (p : IpcProcess) (g : Management) → slice_get members k ≡ Some m → slice_get processes k ≡ Some p → slice_get managements k ≡ Some g → IsManaged is_static members plans now m p g
 
 -- so are those of a DIF
 abbrev pub AreManaged : Dif → Type 0
-AreManaged d = AreManagedBy d.settings.members d.laid.links d.clock d.processes d.managements
+AreManaged d = AreManagedBy d.laid.is_static d.settings.members d.laid.links d.clock d.processes d.managements

@@ -33,7 +33,7 @@ use Rattle.rina_dif.specs.Shown.{seen_of}
 -- connection at a place is allocated
 pub record IsOpenEnd (d : Dif) (below : Seen) (i place number : ℕ) : Type 0 where
   pub here : IsLinkEnd d i place number
-  pub open_below : state_of below here.channel.port ≡ Some Allocated
+  pub open_below : state_of below here.live.link.port ≡ Some Allocated
 
 -- the end is found, or there is none
 abbrev pub FindsOpenEnd : Dif → Seen → ℕ → ℕ → Option ℕ → Type 0

@@ -1,20 +1,20 @@
 -- The next hops of the IPC processes of a DIF.
-use Rattle.std.specs.Prelude.{◌≡◌, ℕ, ◌<◌, ◌⊎◌, List, length, slice_get, slice_set, Some}
+use Rattle.std.specs.Prelude.{◌≡◌, ℕ, ◌<◌, ◌⊎◌, Bool, true, List, length, slice_get, slice_set, Some}
 use Rattle.rina_plan.specs.declared.dif.LinkPlan.{LinkPlan}
 use Rattle.rina_data.specs.declared.link.Route.{Route}
 use Rattle.rina_data.specs.declared.process.IpcProcess.{IpcProcess}
 use Rattle.rina_data.specs.declared.settings.Member.{Member}
 use Rattle.rina_data.specs.Process.{Process}
 use Rattle.rina_dif_law.specs.Dif.{DifSeen, with_process}
-use Rattle.rina_member.specs.Knowing.{AreRoutesOf, all_claims}
+use Rattle.rina_member.specs.Knowing.{AreRoutesOf, all_claims, hops_of}
 use Rattle.rina_member.specs.Routing.{AreRoutesOver, edges_of, live_links}
 use Rattle.rina_member.specs.declared.management.Management.{Management}
 
--- each IPC process has its next hops over its live links and the edges that the items of its management claim, where these are the links
--- of the DIF as they were laid
-abbrev pub HaveRoutes : List Member → List LinkPlan → List IpcProcess → List Management → Type 0
-HaveRoutes members plans processes managements = (k : ℕ) (m : Member) (p : IpcProcess) (g : Management) → slice_get members k ≡ Some m → slice_get processes k ≡ Some p → slice_get managements k ≡ Some g
-    → AreRoutesOver m.addr (live_links members plans m p.links) (all_claims g.agent.items) members p.routes
+-- each IPC process has its next hops over the links that are up at its management, with known neighbours, and the edges that the items of
+-- this claim. In a static DIF those are its live links, where these are the links of the DIF as they were laid
+abbrev pub HaveRoutes : Bool → List Member → List LinkPlan → List IpcProcess → List Management → Type 0
+HaveRoutes is_static members plans processes managements = (k : ℕ) (m : Member) (p : IpcProcess) (g : Management) → slice_get members k ≡ Some m → slice_get processes k ≡ Some p → slice_get managements k ≡ Some g
+    → AreRoutesOver m.addr (hops_of g.agent.links) (all_claims g.agent.items) members p.routes × (is_static ≡ true → hops_of g.agent.links ≡ live_links members plans m p.links)
 
 -- each has them over its live links and the links of the DIF as they were laid, as from the start
 abbrev pub HaveFirstRoutes : List Member → List LinkPlan → List IpcProcess → Type 0
@@ -38,13 +38,14 @@ pub record AreRouted (members : List Member) (managements : List Management) (co
 
 -- As the laws see it
 
--- one IPC process of a DIF has other next hops, and nothing else changed
+-- one IPC process of a DIF has other next hops, and these are the nodes of the enrolled members; nothing else changed
 pub record IsRerouted (d d' : DifSeen) : Type 0 where
   pub place : ℕ
   pub process : Process
   pub is_process : slice_get d.processes place ≡ Some process
   pub routes : List Route
-  pub is : d' ≡ with_process d place (record process { routes = routes })
+  pub nodes : List ℕ
+  pub is : d' ≡ record (with_process d place (record process { routes = routes })) { enrolled = nodes }
 
 -- or nothing changed at all
 abbrev pub MayReroute : DifSeen → DifSeen → Type 0

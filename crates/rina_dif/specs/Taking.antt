@@ -1,6 +1,8 @@
 -- What comes to a DIF on its links.
 use Rattle.std.specs.Prelude.{◌≡◌, ℕ, ◌+◌, ◌-◌, ◌≤◌, ◌⊎◌, List, length, position, slice_get, slice_set, Option, Some, None, Result, Ok, Err}
 use Rattle.rina_account.specs.declared.ledger.Off.{Off}
+use Rattle.rina_agent.specs.declared.state.AgentError.{AgentError}
+use Rattle.rina_agent.specs.declared.state.AgentError.TheVariants as agent
 use Rattle.rina_base.specs.declared.cause.Cause.{Cause}
 use Rattle.rina_base.specs.declared.memory.Memory.{Memory as NoMemory}
 use Rattle.rina_base.specs.declared.number.Port.{Port}
@@ -19,7 +21,7 @@ use Rattle.rina_data.specs.declared.step.InStep.{InStep}
 use Rattle.rina_data.specs.declared.step.InStep.TheVariants as steps
 use Rattle.rina_data.specs.declared.step.Decision.{Decision}
 use Rattle.rina_data.specs.declared.step.StepError.{StepError}
-use Rattle.rina_data.specs.declared.step.StepError.TheVariants.{Memory, NoIpc}
+use Rattle.rina_data.specs.declared.step.StepError.TheVariants.{CountSpent, Memory, NoIpc}
 use Rattle.rina_data.specs.declared.step.Took.{Took}
 use Rattle.rina_data.specs.declared.step.Took.TheVariants as took
 use Rattle.rina_dif_law.specs.Cloud.{Everywhere, IsOnWay}
@@ -44,7 +46,7 @@ use Rattle.rina_member.specs.Knowing.{AreRoutesOf}
 use Rattle.rina_dif.specs.declared.dif.Dif.{Dif}
 use Rattle.rina_dif.specs.declared.messages_in.Handled.{Handled}
 use Rattle.rina_dif.specs.Flooding.{StayFlooding}
-use Rattle.rina_dif.specs.Handling.{HandlesAhead, HandlesAll}
+use Rattle.rina_dif.specs.Handling.{HandlesAhead, HandlesAll, LacksAhead, TellsNodes}
 use Rattle.rina_dif.specs.Holding.{AreHoused, Holds, LinksStand}
 use Rattle.rina_dif.specs.Managing.{AreEnrolled, AreManaged}
 use Rattle.rina_dif.specs.Routing.{MayReroute}
@@ -205,11 +207,25 @@ pub record BringsAhead (d : Dif) (i number since : ℕ) (port : Port) (hop : Hop
   pub takes : TakesOwnPiece d since port hop h.place its
   pub handles : HandlesAhead d i h.place number its h.management
   pub routes : AreRoutesOf h.management.agent d.settings.members h.routes
+  pub enrolled : TellsNodes d i h.management h.enrolled
 
 -- or the PDU is no piece that an end of the link takes
 abbrev pub MayBring : Dif → ℕ → ℕ → ℕ → Port → Hop → Option Handled → Type 0
 MayBring d i number since port hop (Some h) = BringsAhead d i number since port hop h
 MayBring d i number since port hop None = NoOwnPiece d since port hop
+
+-- a message that the piece makes whole needs more version counts or invoke ids than the member of place i has left
+pub record LacksFor (d : Dif) (i number since : ℕ) (port : Port) (hop : Hop) (need left : ℕ) : Type 0 where
+  pub place : ℕ
+  pub its : Pdu
+  pub takes : TakesOwnPiece d since port hop place its
+  pub lacks : LacksAhead d i place number its need left
+
+-- what is told ahead; nothing where memory ran out
+abbrev pub BringsAs : Dif → ℕ → ℕ → ℕ → Port → Hop → Result (Option Handled) AgentError → Type 0
+BringsAs d i number since port hop (Ok found) = MayBring d i number since port hop found
+BringsAs d i number since port hop (Err (agent.CountSpent need left)) = LacksFor d i number since port hop need left
+BringsAs d i number since port hop (Err agent.Memory) = Unit {0}
 
 -- Once it was taken, the end passes what came to it, and the member of place i handles it; nothing more happens where no end took a piece
 abbrev pub HandlesPiece : Dif → ℕ → ℕ → ℕ → Port → Hop → Dif → Seen → Dif → Type 0
@@ -253,9 +269,21 @@ pub record HandlesOldest (d : Dif) (below : Seen) (i n : ℕ) (taken : Dif) (bel
   pub is_oldest : IsOldest (config_of d.settings) below link.port since hop
   pub handles : HandlesPiece d i n since link.port hop taken below' d'
 
--- what a step handles: where no SDU was taken, nothing
+-- for what the piece in the oldest SDU of link n makes whole the member has too few version counts or invoke ids left
+pub record LacksOldest (d : Dif) (below : Seen) (i n need left : ℕ) : Type 0 where
+  pub process : IpcProcess
+  pub is_process : slice_get d.processes i ≡ Some process
+  pub link : Link
+  pub is_link : link_by n process.links ≡ Some link
+  pub since : ℕ
+  pub hop : Hop
+  pub is_oldest : IsOldest (config_of d.settings) below link.port since hop
+  pub lacks : LacksFor d i n since link.port hop need left
+
+-- what a step handles: where no SDU was taken, nothing; where counts are spent, it says so, and the SDU waits on
 abbrev pub Handles : Dif → Seen → ℕ → ℕ → Result InStep StepError → Dif → Seen → Dif → Type 0
 Handles d below i n (Ok (steps.Took key end)) taken below' d' = HandlesOldest d below i n taken below' d'
+Handles d below i n (Err (CountSpent need left)) taken below' d' = LacksOldest d below i n need left × (d' ≡ taken)
 Handles d below i n result taken below' d' = d' ≡ taken
 
 -- what `in_step` does at a link of the IPC process of place i: it takes an SDU, which makes the DIF `taken` of it and leaves what the members hold,

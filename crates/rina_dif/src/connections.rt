@@ -15,7 +15,7 @@ use crate::dif::place;
 use crate::fixed_flows::{greatest, new_end, piece};
 use crate::processes::Processes;
 use rina_base::{Addr, FlowName, Memory, PduView, Port, Seq, Tick};
-use rina_channel::{Channel, channel_at, named, peer_at};
+use rina_channel::{Attachment, Channel, channel_at, named, peer_at};
 use rina_cube::Cube;
 use rina_data::{Link, Settings};
 use rina_flows::Flows;
@@ -64,10 +64,10 @@ fn channel_of(settings: &Settings, processes: &Processes, port: Port, partner: A
     let Some(at) = place_on(links, port) else {
         unreachable!()
     };
+    let number = links[at].number;
     Channel {
         member,
-        number: links[at].number,
-        port,
+        link: Some(Attachment { number, port }),
         partner,
     }
 }
@@ -155,8 +155,8 @@ impl Connections {
             tick: clock,
             count: 0,
         };
-        let asker = new_end(alloc, flow, Role::Asker, near.port, near_name, far_name, 0)?;
-        let end = new_end(alloc, flow, Role::Far, far.port, far_name, near_name, 0)?;
+        let asker = new_end(alloc, flow, Role::Asker, pair.0, near_name, far_name, 0)?;
+        let end = new_end(alloc, flow, Role::Far, pair.1, far_name, near_name, 0)?;
         let piece = piece(settings);
         let max = greatest(settings.widths);
         let manage = self.manage;

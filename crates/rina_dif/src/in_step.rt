@@ -15,11 +15,13 @@ ghost use Rattle.rina_flows.specs.Tied.{conns_of};
 ghost use Rattle.rina_dif.specs.Elsewhere.{ChangesOnly, ChangesProcess, IsTaker, MayTake, WhenOk, home_of};
 ghost use Rattle.rina_dif.specs.Facade.{GoesOn, OthersStand};
 ghost use Rattle.rina_dif.specs.Holding.{Holds, Stands};
+ghost use Rattle.rina_dif.specs.Managing.{StayEnrolled};
 ghost use Rattle.rina_dif.specs.Shown.{seen_of};
-ghost use Rattle.rina_dif.specs.Taking.{Comes, IsForLink, IsOwn, MayBring, OwnPieceTakenBy, SettlesFor, TakesFor, TakesHome, TakesIn};
+ghost use Rattle.rina_dif.specs.Taking.{BringsAs, Comes, IsForLink, IsOwn, OwnPieceTakenBy, SettlesFor, TakesFor, TakesHome, TakesIn};
 
 use crate::dif::Dif;
 use crate::messages_in::Handled;
+use rina_agent::AgentError;
 use rina_base::{Cause, Memory, Node, PduKind, PduView, Port, Tick};
 use rina_channel::is_of_link;
 use rina_data::{Decision, HopView, InStep, StepError, Took, live_link, open};
@@ -150,7 +152,8 @@ impl Dif {
     }
 
     /// What the member at a place is once it handled the messages that a PDU makes whole, which came on its link of a number with a
-    /// port below. None where the PDU is no piece that an end of the link takes. The PDU is not taken.
+    /// port below. None where the PDU is no piece that an end of the link takes. The PDU is not taken. Refused with `CountSpent` where
+    /// the member has too few version counts or invoke ids left for one of them.
     fn handled_ahead(
         &self,
         alloc: Global,
@@ -158,21 +161,23 @@ impl Dif {
         number: u16,
         port: Port,
         came: &Came<'_>,
-    ) -> Result<Option<Handled>, Memory>
+    ) -> Result<Option<Handled>, AgentError>
         requires clock { self.now.clock ≤ 10_000_000 }
         requires stands { (below : Seen) × Stands self.now below }
         requires at { at < length self.now.settings.members }
-        ensures { IfOk result (MayBring self.now at number came.now.since port (hop_of came.now.hop)) }
+        ensures { BringsAs self.now at number came.now.since port (hop_of came.now.hop) result }
     {
         let Some((place, pdu)) = self.piece_taker(port, came) else {
             return Ok(None);
         };
         let management = self.management_ahead(alloc, at, place, number, &pdu)?;
         let routes = self.routes_over(alloc, &management)?;
+        let enrolled = self.enrolled_after(alloc, at, &management)?;
         Ok(Some(Handled {
             place,
             management,
             routes,
+            enrolled,
         }))
     }
 
@@ -263,7 +268,8 @@ impl Dif {
         ensures lower { PassesBelow (below.new ≡ below.old) (PassesAsSeen F.seen F.does_pass below.old below.new) result }
         ensures settings { self.new.settings ≡ self.old.settings }
         ensures laid { self.new.laid ≡ self.old.laid }
-        ensures whole { self.new ≡ record self.old { processes = self.new.processes; flows = self.new.flows; connections = self.new.connections; managements = self.new.managements } }
+        ensures whole { self.new ≡ record self.old { processes = self.new.processes; flows = self.new.flows; connections = self.new.connections; managements = self.new.managements; enrolled = self.new.enrolled } }
+        ensures enrolled { StayEnrolled self.old.enrolled self.new.enrolled }
         ensures leaves { ChangesOnly (MayTake result self.old (Some at)) (Some at) self.old self.new }
         ensures failed { self.new.failed ≡ self.old.failed }
     {
@@ -285,7 +291,13 @@ impl Dif {
             since: lent.at,
             hop,
         };
-        let handled = self.handled_ahead(alloc, at, link, port, &came)?;
+        let handled = match self.handled_ahead(alloc, at, link, port, &came) {
+            Ok(handled) => handled,
+            Err(AgentError::Memory) => return Err(StepError::Memory),
+            Err(AgentError::CountSpent { need, left }) => {
+                return Err(StepError::CountSpent { need, left });
+            }
+        };
         let end = self.settle(alloc, at, port, &came)?;
         below.pass(port);
         self.handle_messages(at, link, handled);
@@ -294,7 +306,8 @@ impl Dif {
 
     /// Takes one step of the IPC process at a node at a link: the oldest SDU that waits there is taken, and the PDU in
     /// it delivered to its connection or to that of the link, relayed, or written off. The messages of management that it makes whole are
-    /// handled in the same step.
+    /// handled in the same step. Refused with `CountSpent`, and nothing changes, where the member has too few version counts or invoke ids
+    /// left for one of them.
     pub fn in_step<F: Facility>(
         &mut self,
         alloc: Global,
@@ -314,7 +327,7 @@ impl Dif {
         ensures others { OthersStand self.old (F.seen below.old) (F.seen below.new) }
         ensures settings { self.new.settings ≡ self.old.settings }
         ensures laid { self.new.laid ≡ self.old.laid }
-        ensures whole { self.new ≡ record self.old { processes = self.new.processes; flows = self.new.flows; connections = self.new.connections; managements = self.new.managements; failed = self.new.failed } }
+        ensures whole { self.new ≡ record self.old { processes = self.new.processes; flows = self.new.flows; connections = self.new.connections; managements = self.new.managements; enrolled = self.new.enrolled; failed = self.new.failed } }
         ensures leaves { ChangesOnly (MayTake result self.old (home_of self.old node)) (home_of self.old node) self.old self.new }
         ensures failed { self.old.failed ≡ true → result ≡ Err MemoryWanted }
         ensures fails { self.new.failed ≡ true ↔ (result ≡ Err MemoryWanted) }

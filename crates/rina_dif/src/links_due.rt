@@ -7,7 +7,7 @@ ghost use Rattle.rina_dif.specs.Holding.{LinksStand};
 ghost use Rattle.rina_dif.specs.LinkDue.{FindsFirstLink, FindsNextLink, TellsLinkDue, is_link_of, lesser_link};
 
 use crate::dif::Dif;
-use rina_channel::Channel;
+use rina_channel::Attachment;
 use rina_data::Link;
 use rina_flows::Item;
 use rina_iface::PortState;
@@ -28,19 +28,19 @@ pub struct NextLink {
     pub turn: LinkTurn,
 }
 
-/// Whether a link is live, and that of a channel.
+/// Whether a link is live, and the one of an attachment.
 #[tactic(auto, unfolding(crate::specs::LinkDue::is_link_of))]
-fn is_link_of(link: &Link, channel: &Channel) -> bool
-    ensures { result ≡ is_link_of channel.now link.now }
+fn is_link_of(link: &Link, attached: Attachment) -> bool
+    ensures { result ≡ is_link_of attached link.now }
 {
-    link.live && link.number == channel.number && link.port == channel.port
+    link.live && link.number == attached.number && link.port == attached.port
 }
 
-/// Whether the link of a channel is one of these, and live.
-fn has_link_of(links: &[Link], channel: &Channel) -> bool
-    ensures { result ≡ list_any (is_link_of channel.now) links.now }
+/// Whether the link of an attachment is one of these, and live.
+fn has_link_of(links: &[Link], attached: Attachment) -> bool
+    ensures { result ≡ list_any (is_link_of attached) links.now }
 {
-    links.iter().any(|link| is_link_of(link, channel))
+    links.iter().any(|link| is_link_of(link, attached))
 }
 
 /// Of two links the one of the lesser number.
@@ -63,16 +63,17 @@ impl Dif {
         let channel = self.connections.channels.as_slice().get(place)?;
         let end = flows.journal.ends.get(place)?;
         let process = self.processes.get(at)?;
+        let attached = channel.link?;
         if !matches!(end.state, PortState::Allocated) || channel.member != at {
             return None;
         }
-        if !has_link_of(process.links.as_slice(), channel) || place >= flows.conns.len() {
+        if !has_link_of(process.links.as_slice(), attached) || place >= flows.conns.len() {
             return None;
         }
         if !flows.is_due(self.clock, place, item) {
             return None;
         }
-        Some(channel.number)
+        Some(attached.number)
     }
 
     /// Of the links of the IPC process at a place at whose management connections an item is due, the one of the least number.

@@ -66,7 +66,10 @@ impl Dif {
         let Some(channel) = links.channels.get(turn.place) else {
             unreachable!()
         };
-        free_below(alloc, below, channel.port)?;
+        let Some(attached) = channel.link else {
+            unreachable!()
+        };
+        free_below(alloc, below, attached.port)?;
         Ok(Num {
             cep: 0,
             seq: told.num.seq,

@@ -5,7 +5,6 @@ ghost use Rattle.rina_conn.specs.declared.made.OfferError.TheVariants as offer;
 ghost use Rattle.rina_iface.specs.Seen.{Seen};
 ghost use Rattle.rina_law.specs.Direction.{Direction};
 ghost use Rattle.rina_queue.specs.Queues.{queue_place};
-ghost use Rattle.rina_data.specs.declared.link.Link.{Link};
 ghost use Rattle.rina_data.specs.declared.process.IpcProcess.{IpcProcess};
 ghost use Rattle.rina_channel.specs.Names.{unnamed};
 ghost use Rattle.rina_dif.specs.Elsewhere.{ChangesProcess};
@@ -14,6 +13,7 @@ ghost use Rattle.rina_dif.specs.Messaging.{FindsOpenEnd, IsAllocated, IsOpenEnd,
 ghost use Rattle.rina_dif.specs.Telling.{TellNeighbours};
 
 use crate::dif::Dif;
+use crate::processes::MOST_LINKS;
 use rina_base::{Memory, Pdu};
 use rina_channel::unname;
 use rina_conn::OfferError;
@@ -160,29 +160,6 @@ impl Dif {
         self.offer_sdu(alloc, at, place, number, sdu)
     }
 
-    /// How many links the IPC process at a place has had.
-    fn count_links(&self, at: usize) -> usize
-        requires { at < length self.now.processes }
-        ensures { (p : IpcProcess) → slice_get self.now.processes at ≡ Some p → result ≡ length p.links }
-    {
-        let Some(process) = self.processes.get(at) else {
-            unreachable!()
-        };
-        process.links.len()
-    }
-
-    /// The number of the link at a place of an IPC process.
-    fn link_number(&self, at: usize, place: usize) -> u16
-        requires at { at < length self.now.processes }
-        requires place { (p : IpcProcess) → slice_get self.now.processes at ≡ Some p → place < length p.links }
-        ensures { (p : IpcProcess) (link : Link) → slice_get self.now.processes at ≡ Some p → slice_get p.links place ≡ Some link → result ≡ link.number }
-    {
-        let Some(process) = self.processes.get(at) else {
-            unreachable!()
-        };
-        process.links.as_slice()[place].number
-    }
-
     /// Offers the message that is due at the link of the least number, at the IPC process of a place, and answers that number. None
     /// exactly where none is due; without memory nothing changes.
     pub(crate) fn offer_message<F: Facility>(
@@ -200,8 +177,7 @@ impl Dif {
         ensures whole { self.new ≡ record self.old { processes = self.new.processes; connections = record self.old.connections { flows = self.new.connections.flows }; managements = self.new.managements } }
         ensures leaves { ChangesProcess (Some at) self.old.processes self.new.processes }
     {
-        for place in 0..self.count_links(at) {
-            let number = self.link_number(at, place);
+        for number in 0..MOST_LINKS {
             if self.offer_on(alloc, below, at, number)? {
                 return Ok(Some(number));
             }

@@ -6,15 +6,16 @@ ghost use Rattle.rina_iface.specs.Journal.{At};
 ghost use Rattle.rina_iface.specs.Seen.{Seen};
 ghost use Rattle.rina_law.specs.Direction.{Direction};
 ghost use Rattle.rina_member.specs.declared.management.Management.{Management};
-ghost use Rattle.rina_member.specs.Handling.{AreUnenrolled};
+ghost use Rattle.rina_flood.specs.Network.{is_in};
 ghost use Rattle.rina_dif.specs.Elsewhere.{ChangesProcess};
 ghost use Rattle.rina_dif.specs.Flooding.{texts_of};
-ghost use Rattle.rina_dif.specs.Handling.{HandlesAhead, HandlesAs, HandlesInTurn, HandlesOne, IsHandled, IsToldAhead, PassesAll, unpassed_sdus};
+ghost use Rattle.rina_dif.specs.Handling.{AnswersAhead, AnswersInTurn, AnswersOne, HandlesAs, IsHandled, IsToldAhead, PassesAll, TellsNodes, unpassed_sdus};
 ghost use Rattle.rina_dif.specs.Holding.{Holds, LinksStand, Stands};
+ghost use Rattle.rina_dif.specs.Managing.{StayEnrolled};
 
 use crate::dif::Dif;
-use rina_agent::AgentError;
-use rina_base::{Bytes, Memory, PduView, Seq, Tick};
+use rina_agent::{AgentError, MemberState};
+use rina_base::{Bytes, Memory, Node, PduView, Seq, Tick};
 use rina_data::Route;
 use rina_dtp::Bodies;
 use rina_law::Entry;
@@ -29,38 +30,38 @@ pub struct Handled {
     pub management: Management,
     /// The next hops over the items that it holds.
     pub routes: Seq<Route>,
+    /// The nodes of the enrolled members then; None where the member is enrolled exactly as before.
+    pub enrolled: Option<Seq<Node>>,
 }
 
 /// The management of a member after an SDU came on its link of a number at a tick: as it was, where the SDU changes nothing.
+/// Refused with `CountSpent` where the member has too few version counts or invoke ids left.
 fn after_one(
     alloc: Global,
     management: Management,
     now: Tick,
     number: u16,
     sdu: &[u8],
-) -> Result<Management, Memory>
-    requires unenrolled { AreUnenrolled management.agent.links }
-    ensures { IfOk result (HandlesOne now number sdu.now management) }
+) -> Result<Management, AgentError>
+    ensures { AnswersOne now number sdu.now management result }
 {
     match after_sdu(alloc, &management, now, number, sdu) {
         Ok(Some(after)) => Ok(after),
         Ok(None) => Ok(management),
-        Err(AgentError::Memory) => Err(Memory),
-        Err(AgentError::CountSpent { .. }) => unreachable!(),
+        Err(error) => Err(error),
     }
 }
 
 /// The management of a member after SDUs came on its link of a number, one after the other, at a tick. The one that is given
-/// stays as it is.
+/// stays as it is. Refused with `CountSpent` at the first SDU for which too few counts are left.
 fn after_all(
     alloc: Global,
     management: &Management,
     now: Tick,
     number: u16,
     came: &[Entry],
-) -> Result<Management, Memory>
-    requires unenrolled { AreUnenrolled management.now.agent.links }
-    ensures { IfOk result (HandlesInTurn now number (texts_of came.now) management.now) }
+) -> Result<Management, AgentError>
+    ensures { AnswersInTurn now number (texts_of came.now) management.now result }
 {
     let mut after = management.copy(alloc)?;
     for entry in came {
@@ -69,22 +70,29 @@ fn after_all(
     Ok(after)
 }
 
-/// The management of a member after SDUs with these bytes came on its link of a number, one after the other, at a tick.
+/// The management of a member after SDUs with these bytes came on its link of a number, one after the other, at a tick. Refused
+/// with `CountSpent` at the first for which too few counts are left.
 fn after_bodies(
     alloc: Global,
     management: Management,
     now: Tick,
     number: u16,
     bodies: &[Bytes],
-) -> Result<Management, Memory>
-    requires unenrolled { AreUnenrolled management.agent.links }
-    ensures { IfOk result (HandlesInTurn now number bodies.now management) }
+) -> Result<Management, AgentError>
+    ensures { AnswersInTurn now number bodies.now management result }
 {
     let mut after = management;
     for body in bodies {
         after = after_one(alloc, after, now, number, body.as_slice())?;
     }
     Ok(after)
+}
+
+/// Whether a member is enrolled.
+fn is_in(management: &Management) -> bool
+    ensures { result ≡ is_in management.now.agent.state }
+{
+    management.agent.state == MemberState::Enrolled
 }
 
 impl Dif {
@@ -114,19 +122,18 @@ impl Dif {
     }
 
     /// The management of the member at a place after it handled, in turn, all SDUs that came to the end of its link of a number
-    /// and are not passed.
+    /// and are not passed. Refused with `CountSpent` where too few counts are left.
     fn management_after(
         &self,
         alloc: Global,
         at: usize,
         place: usize,
         number: u16,
-    ) -> Result<Management, Memory>
+    ) -> Result<Management, AgentError>
         requires at { at < length self.now.managements }
         requires place { place < length self.now.connections.flows.journal.ends }
         requires taken { (end : End) → At self.now.connections.flows.journal.ends place end → end.taken ≤ length end.got }
-        requires unenrolled { (m : Management) → slice_get self.now.managements at ≡ Some m → AreUnenrolled m.agent.links }
-        ensures { IfOk result (λ after. (m : Management) (end : End) → slice_get self.now.managements at ≡ Some m → At self.now.connections.flows.journal.ends place end → HandlesInTurn self.now.clock number (unpassed_sdus end) m after) }
+        ensures { (m : Management) (end : End) → slice_get self.now.managements at ≡ Some m → At self.now.connections.flows.journal.ends place end → AnswersInTurn self.now.clock number (unpassed_sdus end) m result }
     {
         let Some(management) = self.managements.get(at) else {
             unreachable!()
@@ -154,7 +161,8 @@ impl Dif {
     }
 
     /// The management of the member at a place after it handled, in turn, the SDUs that came to the end of its link of a number
-    /// and are not passed, and then those that a piece would make whole there. The piece is not taken.
+    /// and are not passed, and then those that a piece would make whole there. The piece is not taken. Refused with `CountSpent`
+    /// where too few counts are left.
     pub(crate) fn management_ahead(
         &self,
         alloc: Global,
@@ -162,29 +170,59 @@ impl Dif {
         place: usize,
         number: u16,
         pdu: &PduView<'_>,
-    ) -> Result<Management, Memory>
+    ) -> Result<Management, AgentError>
         requires clock { self.now.clock ≤ 10_000_000 }
         requires at { at < length self.now.managements }
         requires place { place < length self.now.connections.flows.journal.ends }
         requires conn { place < length self.now.connections.flows.conns }
         requires taken { (end : End) → At self.now.connections.flows.journal.ends place end → end.taken ≤ length end.got }
-        requires unenrolled { (m : Management) → slice_get self.now.managements at ≡ Some m → AreUnenrolled m.agent.links }
-        ensures { IfOk result (HandlesAhead self.now at place number (pdu_of pdu.now)) }
+        ensures { AnswersAhead self.now at place number (pdu_of pdu.now) result }
     {
         let bodies = self.bodies_ahead(alloc, place, pdu)?;
         let after = self.management_after(alloc, at, place, number)?;
         after_bodies(alloc, after, self.clock, number, bodies.as_slice())
     }
 
+    /// The nodes of the enrolled members, in the order of the members, once the one at a place is managed so. None where that one
+    /// is enrolled exactly as before.
+    pub(crate) fn enrolled_after(
+        &self,
+        alloc: Global,
+        at: usize,
+        after: &Management,
+    ) -> Result<Option<Seq<Node>>, Memory>
+        requires aligned { length self.now.managements ≡ length self.now.settings.members }
+        requires at { at < length self.now.managements }
+        ensures { IfOk result (TellsNodes self.now at after.now) }
+    {
+        let managements = self.managements.as_slice();
+        if is_in(after) == is_in(&managements[at]) {
+            return Ok(None);
+        }
+        let mut nodes = Seq::new(alloc);
+        for (place, member) in self.settings.members.as_slice().iter().enumerate() {
+            let management = if place == at {
+                after
+            } else {
+                &managements[place]
+            };
+            if is_in(management) {
+                nodes.push(member.node)?;
+            }
+        }
+        Ok(Some(nodes))
+    }
+
     /// Lets the member at a place handle the messages that came on its link of a number, where there are any: the end passes all of
-    /// them, and the member and its next hops are as was told. Takes no memory.
+    /// them, the member and its next hops are as was told, and so is who is enrolled. Takes no memory.
     pub(crate) fn handle_messages(&mut self, at: usize, number: u16, handled: Option<Handled>)
         requires stands { (below : Seen) × Stands self.old below }
         requires alive { self.old.failed ≡ false }
         requires at { at < length self.old.settings.members }
         requires handled { IfSome handled (IsHandled self.old at number) }
         ensures does { (lines : List Direction) (below : Seen) → Holds self.old lines below → HandlesAs self.old lines below at number handled self.new }
-        ensures whole { self.new ≡ record self.old { processes = self.new.processes; connections = record self.old.connections { flows = self.new.connections.flows }; managements = self.new.managements } }
+        ensures whole { self.new ≡ record self.old { processes = self.new.processes; connections = record self.old.connections { flows = self.new.connections.flows }; managements = self.new.managements; enrolled = self.new.enrolled } }
+        ensures enrolled { StayEnrolled self.old.enrolled self.new.enrolled }
         ensures leaves { ChangesProcess (Some at) self.old.processes self.new.processes }
     {
         let Some(handled) = handled else {
@@ -194,5 +232,8 @@ impl Dif {
         self.pass_messages(handled.place);
         self.processes.set_routes(at, handled.routes);
         self.managements.set(at, handled.management);
+        if let Some(nodes) = handled.enrolled {
+            self.enrolled = nodes;
+        }
     }
 }

@@ -39,6 +39,9 @@ use rina_queue::{Queued, Queues};
 use std::alloc::{AllocError, Global};
 use std::marker::Model;
 
+/// How many live links an IPC process has at most. Its links have the first so many numbers.
+pub(crate) const MOST_LINKS: u16 = 16;
+
 /// The IPC processes of a DIF, each at the place of its member. A contract sees the list of them.
 #[derive(Drop)]
 pub struct Processes {

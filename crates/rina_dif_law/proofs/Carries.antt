@@ -249,7 +249,7 @@ ins_carry d lines below i n (Ok (in_.Took key end)) d' lines' below' kept kept' 
 ins_carry d lines below i n (Err Memory) d' lines' below' kept kept' st c s = same_carries d lines below d' lines' below' s.0 s.1 s.2 c
 ins_carry d lines below i n (Err NoIpc) d' lines' below' kept kept' st c s = same_carries d lines below d' lines' below' s.1 s.2 s.3 c
 ins_carry d lines below i n (Err NoLink) d' lines' below' kept kept' st c s = same_carries d lines below d' lines' below' s.1 s.2 s.3 c
-ins_carry d lines below i n (Err (CountSpent need left)) d' lines' below' kept kept' st c s = absurd s
+ins_carry d lines below i n (Err (CountSpent need left)) d' lines' below' kept kept' st c s = same_carries d lines below d' lines' below' s.0 s.1 s.2 c
 
 -- ---- others below
 

@@ -198,4 +198,4 @@ ins_stand d lines below i n (Ok (in_.Took key end)) d' lines' below' kept kept' 
 ins_stand d lines below i n (Err Memory) d' lines' below' kept kept' st s = same_stands d lines below d' lines' below' s.0 s.1 s.2 st
 ins_stand d lines below i n (Err NoIpc) d' lines' below' kept kept' st s = same_stands d lines below d' lines' below' s.1 s.2 s.3 st
 ins_stand d lines below i n (Err NoLink) d' lines' below' kept kept' st s = same_stands d lines below d' lines' below' s.1 s.2 s.3 st
-ins_stand d lines below i n (Err (CountSpent need left)) d' lines' below' kept kept' st s = absurd s
+ins_stand d lines below i n (Err (CountSpent need left)) d' lines' below' kept kept' st s = same_stands d lines below d' lines' below' s.0 s.1 s.2 st

@@ -358,4 +358,4 @@ ins_accounted d lines below i n (Ok (in_.Took key end)) d' lines' below' kept ke
 ins_accounted d lines below i n (Err Memory) d' lines' below' kept kept' st numbered c a s = accounted_same d lines below d' lines' below' s.0 s.1 s.2 a
 ins_accounted d lines below i n (Err NoIpc) d' lines' below' kept kept' st numbered c a s = accounted_same d lines below d' lines' below' s.1 s.2 s.3 a
 ins_accounted d lines below i n (Err NoLink) d' lines' below' kept kept' st numbered c a s = accounted_same d lines below d' lines' below' s.1 s.2 s.3 a
-ins_accounted d lines below i n (Err (CountSpent need left)) d' lines' below' kept kept' st numbered c a s = absurd s
+ins_accounted d lines below i n (Err (CountSpent need left)) d' lines' below' kept kept' st numbered c a s = accounted_same d lines below d' lines' below' s.0 s.1 s.2 a

@@ -339,7 +339,7 @@ ins_numbered d lines below i m (Ok (in_.Took key end)) d' lines' below' kept kep
 ins_numbered d lines below i m (Err Memory) d' lines' below' kept kept' st n s = same_numbered d d' below below' s.0 s.2 n
 ins_numbered d lines below i m (Err NoIpc) d' lines' below' kept kept' st n s = same_numbered d d' below below' s.1 s.3 n
 ins_numbered d lines below i m (Err NoLink) d' lines' below' kept kept' st n s = same_numbered d d' below below' s.1 s.3 n
-ins_numbered d lines below i m (Err (CountSpent need left)) d' lines' below' kept kept' st n s = absurd s
+ins_numbered d lines below i m (Err (CountSpent need left)) d' lines' below' kept kept' st n s = same_numbered d d' below below' s.0 s.2 n
 
 -- ---- what comes with time
 

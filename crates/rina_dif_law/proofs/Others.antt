@@ -91,7 +91,7 @@ ins_other d o lines olines below i n (Ok (in_.Took key end)) o' olines' below' k
 ins_other d o lines olines below i n (Err Memory) o' olines' below' kept kept' st s = now_kept d lines below below' s.2 st
 ins_other d o lines olines below i n (Err NoIpc) o' olines' below' kept kept' st s = now_kept d lines below below' s.3 st
 ins_other d o lines olines below i n (Err NoLink) o' olines' below' kept kept' st s = now_kept d lines below below' s.3 st
-ins_other d o lines olines below i n (Err (CountSpent need left)) o' olines' below' kept kept' st s = absurd s
+ins_other d o lines olines below i n (Err (CountSpent need left)) o' olines' below' kept kept' st s = now_kept d lines below below' s.2 st
 
 -- whatever leaves what the members' ends sent and passed, at one tick
 pub stands_beside : (d : DifSeen) (lines : List Direction) (below below' : Seen) → AreKept below' → IsStanding d lines below → IsLifted d.config below below' → below'.now ≡ below.now → IsStanding d lines below'

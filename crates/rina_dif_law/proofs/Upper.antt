@@ -138,7 +138,7 @@ ins_silent d lines below i n (Ok (in_.Took key end)) d' lines' below' st s = set
 ins_silent d lines below i n (Err Memory) d' lines' below' st s = noted_silent d d' d.processes s.0
 ins_silent d lines below i n (Err NoIpc) d' lines' below' st s = noted_silent d d' d.processes s.1
 ins_silent d lines below i n (Err NoLink) d' lines' below' st s = noted_silent d d' d.processes s.1
-ins_silent d lines below i n (Err (CountSpent need left)) d' lines' below' st s = absurd s
+ins_silent d lines below i n (Err (CountSpent need left)) d' lines' below' st s = noted_silent d d' d.processes s.0
 
 -- a step of one IPC process alone
 pub outs_silent : (refuses : Port → ℕ → Option SendError) (d : DifSeen) (below : Seen) (i n : ℕ) (r : Result OutStep StepError) (d' : DifSeen) (below' : Seen) → Outs refuses d below i n r d' below' → IsSilent d d'

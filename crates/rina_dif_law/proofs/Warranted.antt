@@ -281,7 +281,7 @@ ins_noted d lines below i n (Ok (in_.Took key end)) d' lines' below' st s = sett
 ins_noted d lines below i n (Err Memory) d' lines' below' st s = same_noted _ d d' s.0
 ins_noted d lines below i n (Err NoIpc) d' lines' below' st s = same_noted _ d d' s.1
 ins_noted d lines below i n (Err NoLink) d' lines' below' st s = same_noted _ d d' s.1
-ins_noted d lines below i n (Err (CountSpent need left)) d' lines' below' st s = absurd s
+ins_noted d lines below i n (Err (CountSpent need left)) d' lines' below' st s = same_noted _ d d' s.0
 
 pub ins_write : (d : DifSeen) (lines : List Direction) (below : Seen) (i n : ℕ) (r : Result InStep StepError) (d' : DifSeen) (lines' : List Direction) (below' : Seen) → IsStanding d lines below → Ins d lines below i n r d' lines' below' → Writes (MayWriteOff d lines below NoPort) d d'
 ins_write d lines below i n r d' lines' below' st s = writes _ d d' (ins_noted d lines below i n r d' lines' below' st s)

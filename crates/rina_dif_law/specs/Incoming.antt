@@ -252,6 +252,6 @@ abbrev pub Ins : DifSeen → List Direction → Seen → ℕ → ℕ → Result 
 Ins d lines below i n (Ok in_.Idle) d' lines' below' = IsEmpty d below i n × (d' ≡ d) × (lines' ≡ lines) × (below' ≡ below)
 Ins d lines below i n (Ok (in_.Took key end)) d' lines' below' = IsTaken d lines below i n key end d' lines' below'
 Ins d lines below i n (Err Memory) d' lines' below' = (d' ≡ d) × (lines' ≡ lines) × (below' ≡ below)
-Ins d lines below i n (Err (CountSpent need left)) d' lines' below' = ⊥
+Ins d lines below i n (Err (CountSpent need left)) d' lines' below' = (d' ≡ d) × (lines' ≡ lines) × (below' ≡ below)
 Ins d lines below i n (Err NoIpc) d' lines' below' = (slice_get d.processes i ≡ None) × (d' ≡ d) × (lines' ≡ lines) × (below' ≡ below)
 Ins d lines below i n (Err NoLink) d' lines' below' = HasNoLink d i n × (d' ≡ d) × (lines' ≡ lines) × (below' ≡ below)

@@ -21,7 +21,7 @@ use Rattle.rina_agent.specs.Enrolments.{hears, is_numbered, place_of}
 use Rattle.rina_agent.specs.Items.{made, own_item, stated}
 use Rattle.rina_agent.specs.Neighbours.{link_key, link_state, member_key}
 use Rattle.rina_agent.specs.Rows.{either, start_batch, started, started_as, started_by, stop_batch, up_link, was_up}
-use Rattle.rina_member.proofs.Losing.{counts_on}
+use Rattle.rina_member.proofs.Counting.{counts_on}
 use Rattle.rina_flood.specs.Network.{Network, put_agent, put_offers, carried, called, AreApart, if_counted, last_state}
 use Rattle.rina_flood.proofs.Calls.{at_itself}
 use Rattle.rina_flood.proofs.Enrolling.{quiet_called}

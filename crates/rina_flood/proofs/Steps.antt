@@ -12,7 +12,7 @@ use Rattle.rina_agent.specs.Items.{made, stated, took, own_item}
 use Rattle.rina_agent.specs.Neighbours.{link_key, link_state}
 use Rattle.rina_agent.specs.Rows.{dropped}
 use Rattle.rina_agent.proofs.Taking.{taken_same, taken_least}
-use Rattle.rina_member.proofs.Losing.{counts_on}
+use Rattle.rina_member.proofs.Counting.{counts_on}
 use Rattle.rina_flood.specs.Network.{Side, other, There, Network, waiting_at, put_agent, put_offers, put_sent, unhandled, carried, on_way, Make, happens}
 use Rattle.rina_flood.proofs.Agendas.{AreFlooded, made_floods, took_floods, left_alone, lost_fewer, lost_floods}
 use Rattle.rina_flood.proofs.Calls.{AreFewer, same_links, at_itself}

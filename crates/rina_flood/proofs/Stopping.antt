@@ -17,7 +17,7 @@ use Rattle.rina_agent.specs.Enrolments.{hears}
 use Rattle.rina_agent.specs.Items.{made, stated, own_item}
 use Rattle.rina_agent.specs.Neighbours.{member_key}
 use Rattle.rina_agent.specs.Rows.{entered, introduced_in, need_in, peer_by, stop_batch, stopped_as, stopped_by, up_link}
-use Rattle.rina_member.proofs.Losing.{counts_on}
+use Rattle.rina_member.proofs.Counting.{counts_on}
 use Rattle.rina_flood.specs.Network.{Network, put_agent, put_offers, called, entering, if_counted, last_state}
 use Rattle.rina_flood.proofs.Calls.{at_itself}
 use Rattle.rina_flood.proofs.Heard.{is_heard}

@@ -23,7 +23,7 @@ use Rattle.rina_flood.proofs.Known.{knower}
 use Rattle.rina_flood.proofs.LinkStates.{state_same}
 use Rattle.rina_flood.proofs.All.{found_key}
 use Rattle.rina_flood.proofs.Settles.{Greatest, kept_made}
-use Rattle.rina_member.proofs.Losing.{counts_on}
+use Rattle.rina_member.proofs.Counting.{counts_on}
 
 -- Of an address: a member keeps its link state as the member's links are, and none newer was made
 pub record Tells (address : ℕ) (a : Agent) (made : List Item) : Type 0 where

@@ -52,7 +52,7 @@ dif_routed plan rank d below st h = record {
   is_dif = h.is_dif;
   its_rank = h.its_rank;
   settings = h.settings;
-  routes = subst (λ (ls : List LinkPlan). HaveRoutes d.settings.members ls d.processes d.managements) (ap (λ (l : Layout). l.links) h.laid) (managed_routed d.settings.members d.laid.links d.clock d.processes d.managements st.1.managed);
+  routes = subst (λ (l : Layout). HaveRoutes l.is_static d.settings.members l.links d.processes d.managements) h.laid (managed_routed d.laid.is_static d.settings.members d.laid.links d.clock d.processes d.managements st.1.managed);
 }
 
 all_routed : (plan : Plan) (t : Tower) → IsTower t → IsAsPlanned plan t → AreRoutedAs plan t

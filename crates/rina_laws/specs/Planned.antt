@@ -19,14 +19,15 @@ abbrev pub StaysAsPlanned : Type 0
 StaysAsPlanned = (plan : Plan) (shelf : List Slot) (start : Stage) (lines : List (List ℕ)) (ns : List Note) (s : Stage) → IsOpening plan shelf start → Runs plan 1 start lines ns s → IsAsPlanned plan s.run.tower
 
 -- a DIF has the settings of a DIF of the stack, which has this rank; each of its IPC processes has its next hops by least walks over its
--- own live links, of those that the stack says, and the edges that both ends claim in the items of its management
+-- own links that are up, in a static DIF the live ones of those that the stack says, and the edges that both ends claim in the items of its
+-- management
 pub record IsRoutedAs (plan : Plan) (rank : ℕ) (d : Dif) : Type 0 where
   pub place : ℕ
   pub dif : DifPlan
   pub is_dif : slice_get plan.difs place ≡ Some dif
   pub its_rank : dif.rank ≡ rank
   pub settings : settings_of plan place ≡ Some d.settings
-  pub routes : HaveRoutes d.settings.members dif.links d.processes d.managements
+  pub routes : HaveRoutes dif.is_static d.settings.members dif.links d.processes d.managements
 
 -- and so each of each rank
 abbrev pub AreRoutedAs : Plan → Tower → Type 0

@@ -1,6 +1,7 @@
 -- What a member is after it handled a message of a neighbour.
-use Rattle.std.proofs.Common.{◌≡◌, ◌∙◌, ⊎_elim, inl, inr, ℕ, ◌-◌, Bool, true, false, cond, List, [], ◌∷◌, ◌++◌, Option, Some, None, Result, Ok, Err, Contains, slice_get, refl, sym, ap, subst, arith}
+use Rattle.std.proofs.Common.{◌≡◌, ◌∙◌, ⊎_elim, inl, inr, ℕ, ◌-◌, Bool, true, false, cond, List, [], ◌∷◌, ◌++◌, Option, Some, None, Result, Ok, Err, Contains, length, ltb, slice_get, refl, sym, ap, subst, arith}
 use Rattle.std.specs.Prelude.{◌==◌, option_and_then}
+use Rattle.std.specs.List.{position_or_len}
 use Rattle.std.specs.Fmt.{decimal}
 use Rattle.std.proofs.lemmas.Bool.{both_ways}
 use Rattle.rina_newest.specs.declared.item.Item.{Item}
@@ -28,7 +29,7 @@ use Rattle.rina_agent.specs.declared.state.MemberState.{MemberState}
 use Rattle.rina_agent.specs.declared.state.MemberState.TheVariants.{Outside, Joining, Enrolled, Denied}
 use Rattle.rina_agent.specs.Agenda.{floods}
 use Rattle.rina_agent.specs.Counts.{next_of, spent, unless}
-use Rattle.rina_agent.specs.Enrolments.{heard_at, heard_by, heard_on, hears, place_of}
+use Rattle.rina_agent.specs.Enrolments.{heard_at, heard_by, heard_on, hears, is_numbered}
 use Rattle.rina_agent.specs.Items.{took}
 use Rattle.rina_agent.specs.Neighbours.{link_key, member_key}
 use Rattle.rina_agent.specs.Rows
@@ -36,9 +37,9 @@ use Rattle.rina_rib.specs.Objects.{object_at}
 use Rattle.rina_rib.specs.Rows.{Tree}
 use Rattle.rina_route.proofs.Lists.{cases, in_none}
 use Rattle.rina_member.specs.declared.management.Management.{Management}
-use Rattle.rina_member.specs.Handling.{AreUnenrolled, BringsItemName, IsItemName, IsSameMember, KeepsOthers, KeepsOutsideItems, TakesNews, item_in}
+use Rattle.rina_member.specs.Handling.{BringsItemName, IsItemName, IsSameMember, IsUnenrolled, KeepsOthers, KeepsOutsideItems, TakesNews, item_in}
 use Rattle.rina_member.specs.Managements.{Handles, HandlesSdu, IsNews, IsSdu, all_live, is_news, keys_brought, keys_made, with_live}
-use Rattle.rina_member.proofs.Lists.{is_there}
+use Rattle.rina_member.proofs.Lists.{first_at}
 use Rattle.rina_member.proofs.Others.{live_others}
 
 same_agent : (x y : Agent) → ◌≡◌ {A = Result Agent AgentError} (Ok x) (Ok y) → x ≡ y
@@ -137,27 +138,29 @@ handled_same a now link (messages.Flood item) = took_same link a item
 pub handles_same : (now link : ℕ) (message : LinkMessage) (m m' : Management) → Handles now link message m m' → IsSameMember m.agent m'.agent
 handles_same now link message m m' h = subst (λ (r : Result Agent AgentError). SameOr m.agent r) h.handles (handled_same m.agent now link message)
 
--- A message of an enrolment where no enrolment made a link
+-- A message of an enrolment on a link that no enrolment made
 
 got_none : (at : ℕ) (message : LinkMessage) (replies : List LinkMessage) (event : EnrolEvent) (l : Link) → l.enrolment ≡ None → heard_on at message replies event l ≡ None
 got_none at message replies event l none = ap (λ (e : Option Enrolment). heard_by at l message replies event e) none
 
-at_none : (links : List Link) (message : LinkMessage) (replies : List LinkMessage) (event : EnrolEvent) (at : ℕ) (o : Option Link) → AreUnenrolled links → slice_get links at ≡ o → option_and_then (heard_on at message replies event) o ≡ None
-at_none links message replies event at None free is = refl
-at_none links message replies event at (Some l) free is = got_none at message replies event l (free l (is_there links at l is))
+at_none : (message : LinkMessage) (replies : List LinkMessage) (event : EnrolEvent) (at : ℕ) (o : Option Link) → ((l : Link) → o ≡ Some l → l.enrolment ≡ None) → option_and_then (heard_on at message replies event) o ≡ None
+at_none message replies event at None free = refl
+at_none message replies event at (Some l) free = got_none at message replies event l (free l refl)
 
-placed_none : (links : List Link) (message : LinkMessage) (replies : List LinkMessage) (event : EnrolEvent) (o : Option ℕ) → AreUnenrolled links → heard_at links message replies event o ≡ None
-placed_none links message replies event None free = refl
-placed_none links message replies event (Some at) free = at_none links message replies event at (slice_get links at) free refl
+placed_none : (links : List Link) (message : LinkMessage) (replies : List LinkMessage) (event : EnrolEvent) (at : ℕ) (b : Bool) → ((l : Link) → slice_get links at ≡ Some l → l.enrolment ≡ None) → heard_at links message replies event (cond b (Some at) None) ≡ None
+placed_none links message replies event at true free = at_none message replies event at (slice_get links at) free
+placed_none links message replies event at false free = refl
 
 -- no session hears it
-hears_none : (links : List Link) (number : ℕ) (message : LinkMessage) (replies : List LinkMessage) (event : EnrolEvent) → AreUnenrolled links → hears links number message replies event ≡ None
-hears_none links number message replies event free = placed_none links message replies event (place_of number links) free
+hears_none : (links : List Link) (number : ℕ) (message : LinkMessage) (replies : List LinkMessage) (event : EnrolEvent) → IsUnenrolled links number → hears links number message replies event ≡ None
+hears_none links number message replies event free =
+    let at : ℕ = position_or_len (is_numbered number) links in
+    placed_none links message replies event at (ltb at (length links)) (λ l is. free l (sym (first_at (is_numbered number) links) ∙ is))
 
 abbrev done : Agent → Result Agent AgentError
 done a = Ok a
 
-pub handled_none : (a : Agent) (now link : ℕ) (m : LinkMessage) → AreUnenrolled a.links → item_in m ≡ None → Rows.handled a now link m ≡ Ok a
+pub handled_none : (a : Agent) (now link : ℕ) (m : LinkMessage) → IsUnenrolled a.links link → item_in m ≡ None → Rows.handled a now link m ≡ Ok a
 handled_none a now link (messages.Connect invoke joiner member) free none =
     let reply : LinkMessage = messages.ConnectR invoke (Rows.denial a joiner) in
     ap (λ o. done (Rows.connected_by a reply o)) (hears_none a.links link (messages.Connect invoke joiner member) (reply ∷ []) (events.Connect (Rows.denial a joiner)) free)
@@ -190,7 +193,7 @@ same_management : (m m' : Management) → m'.agent ≡ m.agent → m'.objects �
 same_management m m' agents objects = ap (λ (g : Agent). both_of g m'.objects) agents ∙ ap (λ (t : Tree). both_of m.agent t) objects
 
 -- it changes nothing at all
-pub handles_none : (now link : ℕ) (message : LinkMessage) (m m' : Management) → AreUnenrolled m.agent.links → item_in message ≡ None → Handles now link message m m' → m' ≡ m
+pub handles_none : (now link : ℕ) (message : LinkMessage) (m m' : Management) → IsUnenrolled m.agent.links link → item_in message ≡ None → Handles now link message m m' → m' ≡ m
 handles_none now link message m m' free none h =
     let agents : m'.agent ≡ m.agent = same_agent m'.agent m.agent (sym h.handles ∙ handled_none m.agent now link message free none) in
     let keys : keys_brought m.agent.last_count m'.agent message ≡ [] = nothing_made m.agent.last_count m'.agent message (ap (λ (g : Agent). g.last_count) agents) none in
@@ -318,11 +321,11 @@ pub item_counts : (now link need left : ℕ) (sdu : List ℕ) (message : LinkMes
 item_counts now link need left sdu message item m is brings h =
     item_done now link h.0 item m.agent (CountSpent need left) (ap (λ (x : LinkMessage). item_in x) (only_message h.0 message sdu h.1.is_sdu is) ∙ brings) h.2
 
-none_or_some : (now link need left : ℕ) (message : LinkMessage) (o : Option Item) (a : Agent) → item_in message ≡ o → AreUnenrolled a.links → Rows.handled a now link message ≡ Err (CountSpent need left) → ⊥
+none_or_some : (now link need left : ℕ) (message : LinkMessage) (o : Option Item) (a : Agent) → item_in message ≡ o → IsUnenrolled a.links link → Rows.handled a now link message ≡ Err (CountSpent need left) → ⊥
 none_or_some now link need left message None a is free refused = (let both = sym (handled_none a now link message free is) ∙ refused in absurd (cc))
 none_or_some now link need left message (Some item) a is free refused = item_done now link message item a (CountSpent need left) is refused
 
-pub none_counts : (now link need left : ℕ) (sdu : List ℕ) (m : Management) → AreUnenrolled m.agent.links → HandlesSdu now link sdu m (Err (CountSpent need left)) → ⊥
+pub none_counts : (now link need left : ℕ) (sdu : List ℕ) (m : Management) → IsUnenrolled m.agent.links link → HandlesSdu now link sdu m (Err (CountSpent need left)) → ⊥
 none_counts now link need left sdu m free h = none_or_some now link need left h.0 (item_in h.0) m.agent refl free h.2
 
 pub takes_item : (now link : ℕ) (sdu : List ℕ) (message : LinkMessage) (item : Item) (m : Management) (after : Option Management) → IsNews message sdu m → item_in message ≡ Some item → HandlesSdu now link sdu m (Ok after)

@@ -1,7 +1,7 @@
 -- What a list contains after a filter, a map, a test of its elements, an insert or a removal.
-use Rattle.std.proofs.Common.{◌≡◌, ◌∙◌, ◌⊎◌, inl, inr, ⊎_elim, ℕ, ◌+◌, ◌<◌, ◌≤◌, Bool, true, false, cond, List, [], ◌∷◌, ◌++◌, Option, Some, None, Contains, length, filter, take, drop, slice_get, refl, sym, ap, subst, arith}
+use Rattle.std.proofs.Common.{◌≡◌, ◌∙◌, ◌⊎◌, inl, inr, ⊎_elim, ℕ, ◌+◌, ◌<◌, ◌≤◌, suc, Bool, true, false, cond, not, List, [], ◌∷◌, ◌++◌, Option, Some, None, Contains, length, filter, take, drop, slice_get, refl, sym, ap, subst, arith}
 use Rattle.std.specs.Prelude.{All, find, insert}
-use Rattle.std.specs.List.{cons_option, filter_map, flat_map, list_any}
+use Rattle.std.specs.List.{cons_option, filter_map, flat_map, list_any, position_or_len}
 use Rattle.std.proofs.lemmas.Bool.{both_ways, or_left, or_right}
 use Rattle.std.proofs.lemmas.List.{take-append-drop}
 use Rattle.std.proofs.lemmas.List.Concat.{flat_map-cons}
@@ -88,6 +88,17 @@ not_found_step p y ys x false is more h among = ⊎_elim (λ same. subst (λ z. 
 pub not_found : {A : Type 0} (p : A → Bool) (xs : List A) (x : A) → find p xs ≡ None → Contains xs x → p x ≡ false
 not_found p [] x h among = absurd (in_none x among)
 not_found p (y ∷ ys) x h among = not_found_step p y ys x (p y) refl (λ rest there. not_found p ys x rest there) h among
+
+first_step : {A : Type 0} (p : A → Bool) (y : A) (ys : List A) (b : Bool) → slice_get ys (position_or_len p ys) ≡ find p ys → slice_get (y ∷ ys) (cond (not b) (1 + position_or_len p ys) 0) ≡ cond b (Some y) (find p ys)
+first_step p y ys true h = refl
+first_step p y ys false h =
+    let one : 1 + position_or_len p ys ≡ suc (position_or_len p ys) = omega arith in
+    ap (λ (n : ℕ). slice_get (y ∷ ys) n) one ∙ h
+
+-- it stands at the first place that passes
+pub first_at : {A : Type 0} (p : A → Bool) (xs : List A) → slice_get xs (position_or_len p xs) ≡ find p xs
+first_at p [] = refl
+first_at p (y ∷ ys) = first_step p y ys (p y) (first_at p ys)
 
 -- a filter that maps
 

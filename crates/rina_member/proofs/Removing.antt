@@ -1,11 +1,10 @@
--- The live links of a member, once one of them is lost.
-use Rattle.std.proofs.Common.{◌≡◌, ◌∙◌, ◌⊎◌, inl, inr, ⊎_elim, ℕ, ◌+◌, ◌≤◌, ◌==◌, zero, suc, ltb, Bool, true, false, cond, not, List, [], ◌∷◌, ◌++◌, Option, Some, None, Contains, length, map, filter, drop, slice_get, slice_set, refl, sym, ap, subst, arith}
-use Rattle.std.specs.Prelude.{find, position, remove}
+-- The links of a member, once one of them is lost: their numbers, and those over which PDUs may leave.
+use Rattle.std.proofs.Common.{◌≡◌, ◌∙◌, ◌⊎◌, inl, inr, ⊎_elim, ℕ, ◌+◌, ◌≤◌, ◌==◌, zero, suc, ltb, Bool, true, false, cond, not, List, [], ◌∷◌, ◌++◌, Option, Some, None, Contains, length, map, filter, drop, slice_get, slice_set, refl, sym, ap, arith}
+use Rattle.std.specs.Prelude.{find, option_map, position, remove}
 use Rattle.std.specs.List.{cons_option, position_or_len}
-use Rattle.std.proofs.lemmas.Bool.{eq-eqb, eqb-true, ltb-false, ne_eqb, true≢false}
+use Rattle.std.proofs.lemmas.Bool.{both_ways, eq-eqb, eqb-true, ltb-false, ne_eqb, true≢false}
 use Rattle.std.proofs.lemmas.List.{append-nil, drop_all, take_all}
 use Rattle.std.proofs.lemmas.Option.{same_Some}
-use Rattle.rina_graph.specs.declared.graph.Edge.{Edge}
 use Rattle.rina_route.specs.declared.link.Link.{Link as Hop}
 use Rattle.rina_route.proofs.Lists.{contains_filter, contains_map, contains_unmap}
 use Rattle.rina_agent.specs.declared.link.Link.{Link as Managed}
@@ -13,16 +12,13 @@ use Rattle.rina_agent.specs.Agenda.{without_at}
 use Rattle.rina_agent.specs.Enrolments.{is_numbered, place_of}
 use Rattle.rina_agent.specs.Rows.{was_up}
 use Rattle.rina_data.specs.declared.link.Link.{Link}
-use Rattle.rina_member.specs.Routing.{live_of, own_link, own_links}
-use Rattle.rina_member.specs.Start.{managed_link}
-use Rattle.rina_member.specs.Knowing.{AreNumbered}
-use Rattle.rina_member.proofs.Laying.{own_is}
-use Rattle.rina_member.proofs.Lists.{at_place, both_true, found, keeps_all, made_of, not_found}
-use Rattle.rina_member.proofs.States.{is_other}
+use Rattle.rina_member.specs.Routing.{live_of}
+use Rattle.rina_member.specs.Knowing.{HaveOwnNumbers, hop_of, hops_of, live_numbers, managed_numbers}
+use Rattle.rina_member.proofs.Lists.{at_place, keeps_all, made_of}
 
 -- The first element that passes is gone
 
-abbrev gone : {A : Type 0} → (A → Bool) → List A → List A
+abbrev pub gone : {A : Type 0} → (A → Bool) → List A → List A
 gone p [] = []
 gone p (x ∷ xs) = cond (p x) xs (x ∷ gone p xs)
 
@@ -46,140 +42,147 @@ at_step xs n false is =
 without_is : {A : Type 0} (p : A → Bool) (xs : List A) → without_at (position p xs) xs ≡ gone p xs
 without_is p xs = at_step xs (position_or_len p xs) (ltb (position_or_len p xs) (length xs)) refl ∙ gone_is p xs
 
--- Links of different numbers
+-- Numbers
 
-turn : (a b : ℕ) → (a == b) ≡ (b == a)
-turn a b = both_true (a == b) (b == a) (λ h. eq-eqb b a (sym (eqb-true a b h))) (λ h. eq-eqb a b (sym (eqb-true b a h)))
+abbrev pub is_same : ℕ → ℕ → Bool
+is_same number n = n == number
 
-abbrev pub Apart : List Hop → Type 0
-Apart [] = Unit {0}
-Apart (h ∷ hs) = ((other : Hop) → Contains hs other → h.number ≡ other.number → ⊥) × Apart hs
+numbers_step : (number : ℕ) (l : Managed) (ls : List Managed) (b : Bool) → managed_numbers (gone (is_numbered number) ls) ≡ gone (is_same number) (managed_numbers ls)
+    → managed_numbers (cond b ls (l ∷ gone (is_numbered number) ls)) ≡ cond b (managed_numbers ls) (l.number ∷ gone (is_same number) (managed_numbers ls))
+numbers_step number l ls true h = refl
+numbers_step number l ls false h = ap (λ (ns : List ℕ). l.number ∷ ns) h
 
-others_stay : (number : ℕ) (hs : List Hop) → ((other : Hop) → Contains hs other → number ≡ other.number → ⊥) → filter (is_other number) hs ≡ hs
-others_stay number hs apart = keeps_all (is_other number) hs (λ other among. ap not (ne_eqb number other.number (apart other among)))
+gone_numbers : (number : ℕ) (ls : List Managed) → managed_numbers (gone (is_numbered number) ls) ≡ gone (is_same number) (managed_numbers ls)
+gone_numbers number [] = refl
+gone_numbers number (l ∷ ls) = numbers_step number l ls (l.number == number) (gone_numbers number ls)
 
-leaves_step : (number : ℕ) (h : Hop) (hs : List Hop) (b : Bool) → (b ≡ true → filter (is_other number) hs ≡ hs) → gone (is_numbered number) (map managed_link hs) ≡ map managed_link (filter (is_other number) hs)
-    → cond b (map managed_link hs) (managed_link h ∷ gone (is_numbered number) (map managed_link hs)) ≡ map managed_link (cond (not b) (h ∷ filter (is_other number) hs) (filter (is_other number) hs))
-leaves_step number h hs true all more = ap (λ (ls : List Hop). map managed_link ls) (sym (all refl))
-leaves_step number h hs false all more = ap (λ (ls : List Managed). managed_link h ∷ ls) more
+-- those of a management without a link
+pub left_numbers : (number : ℕ) (ls : List Managed) → managed_numbers (without_at (place_of number ls) ls) ≡ gone (is_same number) (managed_numbers ls)
+left_numbers number ls = ap (λ (xs : List Managed). managed_numbers xs) (without_is (is_numbered number) ls) ∙ gone_numbers number ls
 
-leaves : (number : ℕ) (hs : List Hop) → Apart hs → gone (is_numbered number) (map managed_link hs) ≡ map managed_link (filter (is_other number) hs)
-leaves number [] apart = refl
-leaves number (h ∷ hs) apart =
-    ap (λ (b : Bool). cond b (map managed_link hs) (managed_link h ∷ gone (is_numbered number) (map managed_link hs))) (turn h.number number)
-    ∙ leaves_step number h hs (number == h.number) (λ is. others_stay number hs (λ other among same. apart.0 other among (sym (eqb-true number h.number is) ∙ same))) (leaves number hs apart.1)
+apart_rest : (x : Link) (xs : List Link) → HaveOwnNumbers (x ∷ xs) → HaveOwnNumbers xs
+apart_rest x xs h j k a b one two alive other same = (let e = h (suc j) (suc k) a b one two alive other same in omega (arith, e))
 
--- the links that are left of live ones
-pub left_links : (number : ℕ) (hops : List Hop) → Apart hops → without_at (place_of number (map managed_link hops)) (map managed_link hops) ≡ map managed_link (filter (is_other number) hops)
-left_links number hops apart = without_is (is_numbered number) (map managed_link hops) ∙ leaves number hops apart
+lost_here : (number : ℕ) (x : Link) (xs : List Link) (b : Bool) → b ≡ true → (x.number == number) ≡ true → live_numbers xs ≡ gone (is_same number) (map (λ (l : Link). l.number) (cond b (x ∷ live_of xs) (live_of xs)))
+lost_here number x xs true on same = sym (ap (λ (c : Bool). cond c (live_numbers xs) (x.number ∷ gone (is_same number) (live_numbers xs))) same)
+lost_here number x xs false on same = absurd (true≢false (sym on))
 
--- a live link that is up has the number
-pub up_number : (number : ℕ) (hops : List Hop) (o : Option Managed) → find (is_numbered number) (map managed_link hops) ≡ o → was_up o ≡ true → (h : Hop) × Contains hops h × (h.number ≡ number)
-up_number number hops None is up = absurd (true≢false (sym up))
-up_number number hops (Some l) is up =
-    let r = found (is_numbered number) (map managed_link hops) l is in
-    let u = contains_unmap managed_link hops l r.0 in
-    (u.0, u.1, eqb-true u.0.number number (subst (λ (x : Managed). is_numbered number x ≡ true) (sym u.2) r.1))
+lost_step : (number : ℕ) (x : Link) (xs ys : List Link) (b : Bool) → (b ≡ true → (x.number == number) ≡ false) → live_numbers ys ≡ gone (is_same number) (live_numbers xs)
+    → map (λ (l : Link). l.number) (cond b (x ∷ live_of ys) (live_of ys)) ≡ gone (is_same number) (map (λ (l : Link). l.number) (cond b (x ∷ live_of xs) (live_of xs)))
+lost_step number x xs ys true other h =
+    ap (λ (ns : List ℕ). x.number ∷ ns) h ∙ sym (ap (λ (c : Bool). cond c (live_numbers xs) (x.number ∷ gone (is_same number) (live_numbers xs))) (other refl))
+lost_step number x xs ys false other h = h
 
--- and else none has
-pub no_number : (number : ℕ) (hops : List Hop) (o : Option Managed) → find (is_numbered number) (map managed_link hops) ≡ o → was_up o ≡ false → filter (is_other number) hops ≡ hops
-no_number number hops None is down = keeps_all (is_other number) hops (λ h among.
-    ap not (turn number h.number ∙ not_found (is_numbered number) (map managed_link hops) (managed_link h) is (contains_map managed_link hops h among)))
-no_number number hops (Some l) is down =
-    let r = found (is_numbered number) (map managed_link hops) l is in
-    let u = contains_unmap managed_link hops l r.0 in
-    absurd (true≢false (ap (λ (x : Managed). x.up) u.2 ∙ down))
-
--- The live links, by the places of links
-
-abbrev From : ℕ → List Link → Type 0
-From j links = (k : ℕ) (link : Link) → slice_get links k ≡ Some link → link.number ≡ j + k
-
-from_rest : (j : ℕ) (x : Link) (xs : List Link) → From j (x ∷ xs) → From (j + 1) xs
-from_rest j x xs from k link is = (let n = from (suc k) link is in omega (arith, n))
-
-from_first : (j : ℕ) (x : Link) (xs : List Link) → From j (x ∷ xs) → x.number ≡ j
-from_first j x xs from = (let n = from zero x refl in omega (arith, n))
-
-module _ (es : List Edge) where
-  abbrev live : List Link → List Hop
-  live links = own_links es (live_of links)
-
-  same_number : (link : Link) (h : Hop) → own_link es link ≡ Some h → h.number ≡ link.number
-  same_number link h is = ap (λ (x : Hop). x.number) (own_is es link h is).2
-
-  above : (j : ℕ) (links : List Link) (h : Hop) → From j links → Contains (live links) h → j ≤ h.number
-  above j links h from among =
-      let r = made_of (own_link es) (live_of links) h among in
-      let s = contains_filter (λ (l : Link). l.live) links r.0 r.1 in
-      let n = from s.0.0 r.0 (at_place links r.0 s.0) in
-      let m = same_number r.0 h r.2 in
-      omega (arith, n, m)
-
-  apart_made : (j : ℕ) (x : Link) (xs : List Link) (o : Option Hop) → x.number ≡ j → own_link es x ≡ o → From (j + 1) xs → Apart (live xs) → Apart (cons_option o (live xs))
-  apart_made j x xs None number is from rest = rest
-  apart_made j x xs (Some h) number is from rest = ((λ other among same. (let high = above (j + 1) xs other from among in let low = same_number x h is in omega (arith, high, low, same, number))), rest)
-
-  apart_live : (j : ℕ) (x : Link) (xs : List Link) (b : Bool) → x.number ≡ j → From (j + 1) xs → Apart (live xs) → Apart (own_links es (cond b (x ∷ live_of xs) (live_of xs)))
-  apart_live j x xs true number from rest = apart_made j x xs (own_link es x) number refl from rest
-  apart_live j x xs false number from rest = rest
-
-  apart_from : (j : ℕ) (links : List Link) → From j links → Apart (live links)
-  apart_from j [] from = tt
-  apart_from j (x ∷ xs) from = apart_live j x xs x.live (from_first j x xs from) (from_rest j x xs from) (apart_from (j + 1) xs (from_rest j x xs from))
-
-  pub apart_links : (links : List Link) → AreNumbered links → Apart (live links)
-  apart_links links numbered = apart_from 0 links (λ k link is. (let n = numbered k link is in omega (arith, n)))
-
-  -- the lost link is the first of the rest
-  here_made : (number : ℕ) (xs : List Hop) (o : Option Hop) → ((h : Hop) → o ≡ Some h → number ≡ h.number) → filter (is_other number) xs ≡ xs → xs ≡ filter (is_other number) (cons_option o xs)
-  here_made number xs None its rest = sym rest
-  here_made number xs (Some h) its rest = sym (ap (λ (b : Bool). cond (not b) (h ∷ filter (is_other number) xs) (filter (is_other number) xs)) (eq-eqb number h.number (its h refl)) ∙ rest)
-
-  here_live : (number : ℕ) (x : Link) (xs : List Link) (b : Bool) → b ≡ true → x.number ≡ number → filter (is_other number) (live xs) ≡ live xs → live xs ≡ filter (is_other number) (own_links es (cond b (x ∷ live_of xs) (live_of xs)))
-  here_live number x xs true is its rest = here_made number (live xs) (own_link es x) (λ h made. sym its ∙ sym (same_number x h made)) rest
-  here_live number x xs false is its rest = absurd (true≢false (sym is))
-
-  -- or stands behind it
-  behind_made : (number : ℕ) (ys xs : List Hop) (o : Option Hop) → ((h : Hop) → o ≡ Some h → number ≡ h.number → ⊥) → ys ≡ filter (is_other number) xs → cons_option o ys ≡ filter (is_other number) (cons_option o xs)
-  behind_made number ys xs None other rest = rest
-  behind_made number ys xs (Some h) other rest =
-      ap (λ (ls : List Hop). h ∷ ls) rest ∙ sym (ap (λ (b : Bool). cond (not b) (h ∷ filter (is_other number) xs) (filter (is_other number) xs)) (ne_eqb number h.number (other h refl)))
-
-  behind_live : (number : ℕ) (x : Link) (ys xs : List Link) (b : Bool) → (number ≡ x.number → ⊥) → live ys ≡ filter (is_other number) (live xs)
-      → own_links es (cond b (x ∷ live_of ys) (live_of ys)) ≡ filter (is_other number) (own_links es (cond b (x ∷ live_of xs) (live_of xs)))
-  behind_live number x ys xs true other rest = behind_made number (live ys) (live xs) (own_link es x) (λ h made same. other (same ∙ same_number x h made)) rest
-  behind_live number x ys xs false other rest = rest
-
-  lost_from : (j : ℕ) (links : List Link) (k : ℕ) (link : Link) → From j links → slice_get links k ≡ Some link → link.live ≡ true
-      → live (slice_set links k (record link { live = false })) ≡ filter (is_other link.number) (live links)
-  lost_from j [] k link from is alive = absurd cc
-  lost_from j (x ∷ xs) zero link from is alive =
-      let same : x ≡ link = same_Some x link is in
-      let first : x.number ≡ j = from_first j x xs from in
-      let number : x.number ≡ link.number = ap (λ (l : Link). l.number) same in
-      here_live link.number x xs x.live (ap (λ (l : Link). l.live) same ∙ alive) number
-      (others_stay link.number (live xs) (λ other among equal. (let high = above (j + 1) xs other (from_rest j x xs from) among in omega (arith, high, first, number, equal))))
-  lost_from j (x ∷ xs) (suc k) link from is alive =
-      let first : x.number ≡ j = from_first j x xs from in
-      let number : link.number ≡ j + suc k = from (suc k) link is in
-      behind_live link.number x (slice_set xs k (record link { live = false })) xs x.live (λ equal. omega (arith, first, number, equal)) (lost_from (j + 1) xs k link (from_rest j x xs from) is alive)
-
-  -- the live links once the one at a place is lost: those of other numbers
-  pub lost_link : (links : List Link) (k : ℕ) (link : Link) → AreNumbered links → slice_get links k ≡ Some link → link.live ≡ true
-      → live (slice_set links k (record link { live = false })) ≡ filter (is_other link.number) (live links)
-  lost_link links k link numbered is alive = lost_from 0 links k link (λ i l at. (let n = numbered i l at in omega (arith, n))) is alive
+-- those of the live links, once the one at a place is lost
+pub lost_numbers : (links : List Link) (k : ℕ) (link : Link) → HaveOwnNumbers links → slice_get links k ≡ Some link → link.live ≡ true → live_numbers (slice_set links k (record link { live = false })) ≡ gone (is_same link.number) (live_numbers links)
+lost_numbers [] k link apart is alive = absurd cc
+lost_numbers (x ∷ xs) zero link apart is alive =
+    let same : x ≡ link = same_Some x link is in
+    lost_here link.number x xs x.live (ap (λ (l : Link). l.live) same ∙ alive) (eq-eqb x.number link.number (ap (λ (l : Link). l.number) same))
+lost_numbers (x ∷ xs) (suc k) link apart is alive =
+    lost_step link.number x xs (slice_set xs k (record link { live = false })) x.live
+    (λ on. ne_eqb x.number link.number (λ same. (let e = apart zero (suc k) x link refl is on alive same in omega (arith, e))))
+    (lost_numbers xs k link (apart_rest x xs apart) is alive)
 
 -- a place that was set, or another
-set_cases : {X : Type 0} (xs : List X) (k i : ℕ) (y x : X) → slice_get (slice_set xs k y) i ≡ Some x → ((i ≡ k) × (y ≡ x)) ⊎ (slice_get xs i ≡ Some x)
-set_cases [] k i y x is = inr is
-set_cases (z ∷ zs) zero zero y x is = inl (refl, same_Some y x is)
-set_cases (z ∷ zs) zero (suc i) y x is = inr is
-set_cases (z ∷ zs) (suc k) zero y x is = inr is
-set_cases (z ∷ zs) (suc k) (suc i) y x is = ⊎_elim (λ both. inl (ap (λ (n : ℕ). suc n) both.0, both.1)) (λ old. inr old) (set_cases zs k i y x is)
+pub place_cases : {X : Type 0} (xs : List X) (k i : ℕ) (y x : X) → slice_get (slice_set xs k y) i ≡ Some x → ((i ≡ k) × (y ≡ x)) ⊎ (slice_get xs i ≡ Some x)
+place_cases [] k i y x is = inr is
+place_cases (z ∷ zs) zero zero y x is = inl (refl, same_Some y x is)
+place_cases (z ∷ zs) zero (suc i) y x is = inr is
+place_cases (z ∷ zs) (suc k) zero y x is = inr is
+place_cases (z ∷ zs) (suc k) (suc i) y x is = ⊎_elim (λ both. inl (ap (λ (n : ℕ). suc n) both.0, both.1)) (λ old. inr old) (place_cases zs k i y x is)
 
-pub still_numbered : (links : List Link) (k : ℕ) (link : Link) → AreNumbered links → slice_get links k ≡ Some link → AreNumbered (slice_set links k (record link { live = false }))
-still_numbered links k link numbered is i l at = ⊎_elim
-    (λ both. sym (ap (λ (x : Link). x.number) both.1) ∙ numbered k link is ∙ sym both.0)
-    (λ old. numbered i l old)
-    (set_cases links k i (record link { live = false }) l at)
+-- no two live links have one number still
+pub still_apart : (links : List Link) (k : ℕ) (link : Link) → HaveOwnNumbers links → HaveOwnNumbers (slice_set links k (record link { live = false }))
+still_apart links k link apart i j a b one two alive other same =
+    let lost : Link = record link { live = false } in
+    ⊎_elim
+    (λ both. absurd (true≢false (sym alive ∙ ap (λ (l : Link). l.live) (sym both.1))))
+    (λ old. ⊎_elim
+    (λ both. absurd (true≢false (sym other ∙ ap (λ (l : Link). l.live) (sym both.1))))
+    (λ too. apart i j a b old too alive other same)
+    (place_cases links k j lost b two))
+    (place_cases links k i lost a one)
+
+-- A list of numbers, no two of which are equal
+
+abbrev pub Apart : List ℕ → Type 0
+Apart [] = Unit {0}
+Apart (n ∷ ns) = ((k : ℕ) → Contains ns k → n ≡ k → ⊥) × Apart ns
+
+live_step : (x : Link) (xs : List Link) (b : Bool) → x.live ≡ b → HaveOwnNumbers (x ∷ xs) → Apart (live_numbers xs) → Apart (map (λ (l : Link). l.number) (cond b (x ∷ live_of xs) (live_of xs)))
+live_step x xs true on apart rest = (
+  (λ n has same. (
+      let r = contains_unmap (λ (l : Link). l.number) (live_of xs) n has in
+      let s = contains_filter (λ (l : Link). l.live) xs r.0 r.1 in
+      let e = apart zero (suc s.0.0) x r.0 refl (at_place xs r.0 s.0) on s.1 (same ∙ sym r.2) in
+      omega (arith, e))),
+  rest,
+)
+live_step x xs false on apart rest = rest
+
+pub live_apart : (links : List Link) → HaveOwnNumbers links → Apart (live_numbers links)
+live_apart [] apart = tt
+live_apart (x ∷ xs) apart = live_step x xs x.live refl apart (live_apart xs (apart_rest x xs apart))
+
+-- Links over which PDUs may leave
+
+-- a next hop has another number
+abbrev pub is_other : ℕ → Hop → Bool
+is_other number h = not (number == h.number)
+
+abbrev pub hop : ℕ → ℕ → ℕ → Hop
+hop number weight peer = record { number = number; peer = peer; weight = weight }
+
+hop_by : (number weight : ℕ) (up : Bool) (peer : Option ℕ) (h : Hop) → cond up (option_map (hop number weight) peer) None ≡ Some h → h.number ≡ number
+hop_by number weight true None h is = absurd cc
+hop_by number weight true (Some p) h is = sym (ap (λ (x : Hop). x.number) (same_Some (hop number weight p) h is))
+hop_by number weight false peer h is = absurd cc
+
+pub hop_number : (l : Managed) (h : Hop) → hop_of l ≡ Some h → h.number ≡ l.number
+hop_number l h is = hop_by l.number l.weight l.up l.peer h is
+
+-- where no link has a number, no hop has it
+none_numbered : (number : ℕ) (ls : List Managed) → ((n : ℕ) → Contains (managed_numbers ls) n → number ≡ n → ⊥) → filter (is_other number) (hops_of ls) ≡ hops_of ls
+none_numbered number ls none = keeps_all (is_other number) (hops_of ls) (λ h among. (
+    let r = made_of hop_of ls h among in
+    ap not (ne_eqb number h.number (λ same. none r.0.number (contains_map (λ (l : Managed). l.number) ls r.0 r.1) (same ∙ hop_number r.0 h r.2)))))
+
+here_left : (number : ℕ) (xs : List Hop) (o : Option Hop) → ((h : Hop) → o ≡ Some h → (number == h.number) ≡ true) → filter (is_other number) xs ≡ xs → xs ≡ filter (is_other number) (cons_option o xs)
+here_left number xs None its rest = sym rest
+here_left number xs (Some h) its rest = sym (ap (λ (c : Bool). cond (not c) (h ∷ filter (is_other number) xs) (filter (is_other number) xs)) (its h refl) ∙ rest)
+
+behind_left : (number : ℕ) (xs ys : List Hop) (o : Option Hop) → ((h : Hop) → o ≡ Some h → (number == h.number) ≡ false) → xs ≡ filter (is_other number) ys → cons_option o xs ≡ filter (is_other number) (cons_option o ys)
+behind_left number xs ys None its rest = rest
+behind_left number xs ys (Some h) its rest = ap (λ (hs : List Hop). h ∷ hs) rest ∙ sym (ap (λ (c : Bool). cond (not c) (h ∷ filter (is_other number) ys) (filter (is_other number) ys)) (its h refl))
+
+left_step : (number : ℕ) (l : Managed) (ls : List Managed) (b : Bool) → (l.number == number) ≡ b → ((n : ℕ) → Contains (managed_numbers ls) n → l.number ≡ n → ⊥) → hops_of (gone (is_numbered number) ls) ≡ filter (is_other number) (hops_of ls)
+    → hops_of (cond b ls (l ∷ gone (is_numbered number) ls)) ≡ filter (is_other number) (cons_option (hop_of l) (hops_of ls))
+left_step number l ls true is none more =
+    let same : l.number ≡ number = eqb-true l.number number is in
+    here_left number (hops_of ls) (hop_of l) (λ h made. eq-eqb number h.number (sym same ∙ sym (hop_number l h made))) (none_numbered number ls (λ n among equal. none n among (same ∙ equal)))
+left_step number l ls false is none more =
+    behind_left number (hops_of (gone (is_numbered number) ls)) (hops_of ls) (hop_of l)
+    (λ h made. ne_eqb number h.number (λ equal. both_ways (l.number == number) is (eq-eqb l.number number (sym (equal ∙ hop_number l h made)))))
+    more
+
+gone_hops : (number : ℕ) (ls : List Managed) → Apart (managed_numbers ls) → hops_of (gone (is_numbered number) ls) ≡ filter (is_other number) (hops_of ls)
+gone_hops number [] apart = refl
+gone_hops number (l ∷ ls) apart = left_step number l ls (l.number == number) refl apart.0 (gone_hops number ls apart.1)
+
+-- without a link those of the others are left
+pub left_hops : (number : ℕ) (ls : List Managed) → Apart (managed_numbers ls) → hops_of (without_at (place_of number ls) ls) ≡ filter (is_other number) (hops_of ls)
+left_hops number ls apart = ap (λ (xs : List Managed). hops_of xs) (without_is (is_numbered number) ls) ∙ gone_hops number ls apart
+
+down_step : (number : ℕ) (l : Managed) (ls : List Managed) (b : Bool) → was_up (cond b (Some l) (find (is_numbered number) ls)) ≡ false → (was_up (find (is_numbered number) ls) ≡ false → hops_of (gone (is_numbered number) ls) ≡ hops_of ls)
+    → hops_of (cond b ls (l ∷ gone (is_numbered number) ls)) ≡ cons_option (hop_of l) (hops_of ls)
+down_step number l ls true down more = sym (ap (λ (up : Bool). cons_option (cond up (option_map (hop l.number l.weight) l.peer) None) (hops_of ls)) down)
+down_step number l ls false down more = ap (λ (hs : List Hop). cons_option (hop_of l) hs) (more down)
+
+gone_down : (number : ℕ) (ls : List Managed) → was_up (find (is_numbered number) ls) ≡ false → hops_of (gone (is_numbered number) ls) ≡ hops_of ls
+gone_down number [] down = refl
+gone_down number (l ∷ ls) down = down_step number l ls (l.number == number) down (gone_down number ls)
+
+-- and all of them where it was not up
+pub down_hops : (number : ℕ) (ls : List Managed) → was_up (find (is_numbered number) ls) ≡ false → hops_of (without_at (place_of number ls) ls) ≡ hops_of ls
+down_hops number ls down = ap (λ (xs : List Managed). hops_of xs) (without_is (is_numbered number) ls) ∙ gone_down number ls down

@@ -1,28 +1,48 @@
 -- What a member knows from the start.
-use Rattle.std.proofs.Common.{◌≡◌, ◌∙◌, ◌⊎◌, inl, inr, ⊎_elim, ℕ, ◌≤◌, ◌==◌, Bool, true, false, cond, List, [], ◌∷◌, None, Some, Contains, length, map, refl, sym, ap, subst, arith}
-use Rattle.std.specs.List.{flat_map}
+use Rattle.std.proofs.Common.{◌≡◌, ◌∙◌, ◌⊎◌, inl, inr, ⊎_elim, ℕ, ◌≤◌, ◌==◌, Bool, true, false, cond, List, [], ◌∷◌, ◌<◌, Option, None, Some, Contains, get_or, length, map, slice_get, refl, sym, ap, subst, arith}
+use Rattle.std.specs.Prelude.{option_map}
+use Rattle.std.specs.List.{cons_option, flat_map}
 use Rattle.std.proofs.lemmas.Bool.{eq-eqb}
 use Rattle.std.proofs.lemmas.List.Elements.{Contains-append_cases, Contains-append_right}
-use Rattle.std.proofs.lemmas.Option.{none-some}
+use Rattle.std.proofs.lemmas.Option.{none-some, slice_get-get_or}
 use Rattle.rina_access.specs.declared.rules.Rules.{Rules}
 use Rattle.rina_graph.specs.declared.graph.Edge.{Edge}
 use Rattle.rina_newest.specs.declared.item.Item.{Item}
 use Rattle.rina_newest.specs.Newest.{has_key, kept_at}
 use Rattle.rina_route.specs.declared.link.Link.{Link as Hop}
-use Rattle.rina_route.specs.Routes.{claims_of}
-use Rattle.rina_route.proofs.Lists.{cases, contains_map, contains_unmap, head, in_none}
+use Rattle.rina_route.specs.Routes.{claims_of, edge}
+use Rattle.rina_route.proofs.Lists.{cases, contains_map, contains_unmap, head, in_none, tail}
+use Rattle.rina_agent.specs.declared.link.Link.{Link as Managed}
 use Rattle.rina_agent.specs.Neighbours.{link_key}
 use Rattle.rina_plan.specs.declared.dif.LinkPlan.{LinkPlan}
 use Rattle.rina_data.specs.declared.link.Link.{Link}
 use Rattle.rina_data.specs.declared.settings.Member.{Member}
 use Rattle.rina_member.specs.Routing.{edge_to, edges_from, edges_of, live_links, live_of, own_links}
 use Rattle.rina_member.specs.Start.{HasLinksIfStatic, begun, first_enrolled, first_version, items_held, items_taken, managed_link, member_item, neighbour_link, start_items, started, starts_enrolled, state_item, state_items}
-use Rattle.rina_member.specs.Knowing.{AreLive, AreNumbered, ClaimLinks, IsItemKey, IsLaidOut, Knows, SameEdges, all_claims}
+use Rattle.rina_member.specs.Knowing.{AreLive, AreNumbered, ClaimLinks, HaveOwnNumbers, IsItemKey, IsLaidOut, Knows, SameEdges, all_claims, hops_of, live_numbers, managed_numbers}
+use Rattle.rina_member.specs.Short.{IsLinkInRange}
 use Rattle.rina_member.proofs.Laying.{can_claim, from_member, of_member, own_within, same_member, small_address, within_own}
 use Rattle.rina_member.proofs.Hops.{Within}
 use Rattle.rina_member.proofs.Items.{from_all, holds, member_claims, not_link, same_address}
 use Rattle.rina_member.proofs.Lists.{any_true, at_place, found, from_flat, into_flat, keeps_all}
 use Rattle.rina_member.proofs.States.{start_edges, state_within, within_state}
+
+-- The links of the start
+
+pub hops_again : (hops : List Hop) → hops_of (map managed_link hops) ≡ hops
+hops_again [] = refl
+hops_again (h ∷ hops) = ap (λ (hs : List Hop). h ∷ hs) (hops_again hops)
+
+linked_step : (es : List Edge) (link : Link) (ns : List ℕ) (hs : List Hop) (o : Option Edge) → slice_get es link.number ≡ o → link.number < length es → managed_numbers (map managed_link hs) ≡ ns
+    → managed_numbers (map managed_link (cons_option (option_map (λ (e : Edge). record { number = link.number; peer = e.to; weight = e.weight }) o) hs)) ≡ link.number ∷ ns
+linked_step es link ns hs None is within rest = absurd (none-some (get_or es link.number (edge 0 0 0)) (sym is ∙ slice_get-get_or es link.number (edge 0 0 0) within))
+linked_step es link ns hs (Some e) is within rest = ap (λ (xs : List ℕ). link.number ∷ xs) rest
+
+-- where each link has an edge, the management has one of its number
+linked_numbers : (es : List Edge) (links : List Link) → ((l : Link) → Contains links l → l.number < length es) → managed_numbers (map managed_link (own_links es links)) ≡ map (λ (l : Link). l.number) links
+linked_numbers es [] within = refl
+linked_numbers es (l ∷ links) within =
+    linked_step es l (map (λ (x : Link). x.number) links) (own_links es links) (slice_get es l.number) refl (within l (head l links)) (linked_numbers es links (λ x has. within x (tail l links x has)))
 
 -- Members that are enrolled from the start
 
@@ -146,7 +166,7 @@ module _ (members : List Member) (plans : List LinkPlan) (laid : IsLaidOut membe
 
   -- A member of the start
 
-  module _ (m : Member) (links : List Link) (among : Contains members m) (numbered : AreNumbered links) (live : AreLive links) (enough : length (edges_from members m.node plans) ≤ length links) where
+  module _ (m : Member) (links : List Link) (among : Contains members m) (numbered : AreNumbered links) (live : AreLive links) (enough : length (edges_from members m.node plans) ≡ length links) where
     abbrev es : List Edge
     es = edges_from members m.node plans
 
@@ -165,7 +185,7 @@ module _ (members : List Member) (plans : List LinkPlan) (laid : IsLaidOut membe
         subst (λ (x : Edge). Contains es x) r.2 (own_within m.addr es (live_of links) r.0 from_own r.1)
 
     within_hops : Within es (map (edge_to m.addr) hops)
-    within_hops = subst (λ (ls : List Link). Within es (map (edge_to m.addr) (own_links es ls))) (sym all_live) (within_own m.addr es links from_own numbered enough)
+    within_hops = subst (λ (ls : List Link). Within es (map (edge_to m.addr) (own_links es ls))) (sym all_live) (within_own m.addr es links from_own numbered (omega (arith, enough)))
 
     own_claims : ClaimLinks (items_taken true members plans) m.addr hops
     own_claims e from = (
@@ -181,43 +201,67 @@ module _ (members : List Member) (plans : List LinkPlan) (laid : IsLaidOut membe
         let r = is_first is_static members plans item (found (has_key (link_key m.addr)) (items_taken is_static members plans) item is).0 in
         (omega (arith, r.0), omega (arith, r.1))
 
+    -- each link has a number of its own, and the management has a link of it
+    own_numbers : HaveOwnNumbers links
+    own_numbers j k a b one two alive other same = sym (numbered j a one) ∙ same ∙ numbered k b two
+
+    numbers : managed_numbers (map managed_link hops) ≡ live_numbers links
+    numbers =
+        ap (λ (ls : List Link). managed_numbers (map managed_link (own_links es ls))) all_live
+        ∙ linked_numbers es links (λ l has. (let n = numbered has.0 l (at_place links l has) in let lt = has.1 in omega (arith, n, lt, enough)))
+        ∙ sym (ap (λ (ls : List Link). map (λ (l : Link). l.number) ls) all_live)
+
+    link_ranged : (l : Managed) → Contains (map managed_link hops) l → IsLinkInRange l
+    link_ranged l has =
+        let r = contains_unmap managed_link hops l has in
+        let c = can_claim members plans laid m (edge_to m.addr r.0) among (own_within m.addr es (live_of links) r.0 from_own r.1) in
+        subst (λ (x : Managed). IsLinkInRange x) r.2 (record { peer = c.to; least = c.least; weight = c.weight })
+
     -- where it is enrolled with its links, without links, or not
-    all_known : (rules : Rules) (now : ℕ) → Knows members plans now m links (begun true (items_taken true members plans) (map managed_link hops) rules m)
+    all_known : (rules : Rules) (now : ℕ) → Knows now m links (begun true (items_taken true members plans) (map managed_link hops) rules m)
     all_known rules now = record {
       address = refl;
-      settled = inl refl;
-      numbers = numbered;
-      links_are = refl;
-      own = own_claims;
+      fits = small_address members plans laid m among;
+      apart = own_numbers;
+      numbers = numbers;
+      ranges = link_ranged;
+      own = subst (λ (hs : List Hop). ClaimLinks (items_taken true members plans) m.addr hs) (sym (hops_again hops)) own_claims;
       keys = item_keys true;
       past = first_past true now;
     }
 
     module _ (bare : links ≡ []) where
-      no_hops : [] ≡ hops
-      no_hops = ap (λ (ls : List Link). own_links es (live_of ls)) (sym bare)
+      no_links : map managed_link hops ≡ []
+      no_links = ap (λ (ls : List Link). map managed_link (own_links es (live_of ls))) bare
 
-      none_known : (enrolled : Bool) (rules : Rules) (now : ℕ) → Knows members plans now m links (begun enrolled (items_taken false members plans) (map managed_link hops) rules m)
+      no_numbers : [] ≡ live_numbers links
+      no_numbers = ap (λ (ls : List Link). live_numbers ls) (sym bare)
+
+      none_known : (enrolled : Bool) (rules : Rules) (now : ℕ) → Knows now m links (begun enrolled (items_taken false members plans) [] rules m)
       none_known true rules now = record {
         address = refl;
-        settled = inl refl;
-        numbers = numbered;
-        links_are = refl;
-        own = λ e from. ((λ h. absurd (none_claimed members plans e h)), (λ h. absurd (in_none e (subst (λ (hs : List Hop). Contains (map (edge_to m.addr) hs) e) (sym no_hops) h))));
+        fits = small_address members plans laid m among;
+        apart = own_numbers;
+        numbers = no_numbers;
+        ranges = λ l has. absurd (in_none l has);
+        own = λ e from. ((λ h. absurd (none_claimed members plans e h)), (λ h. absurd (in_none e h)));
         keys = item_keys false;
         past = first_past false now;
       }
       none_known false rules now = record {
         address = refl;
-        settled = inr (record { state = refl; items = refl; bare = bare });
-        numbers = numbered;
-        links_are = ap (λ (hs : List Hop). map managed_link hs) no_hops;
-        own = λ e from. ((λ h. absurd (in_none e h)), (λ h. absurd (in_none e (subst (λ (hs : List Hop). Contains (map (edge_to m.addr) hs) e) (sym no_hops) h))));
+        fits = small_address members plans laid m among;
+        apart = own_numbers;
+        numbers = no_numbers;
+        ranges = λ l has. absurd (in_none l has);
+        own = λ e from. ((λ h. absurd (in_none e h)), (λ h. absurd (in_none e h)));
         keys = λ item h. absurd (in_none item h);
         past = λ item is. absurd (none-some item is);
       }
 
-    pub at_start : (is_static : Bool) (rules : Rules) (now : ℕ) → HasLinksIfStatic is_static links → Knows members plans now m links (started is_static members plans rules m links)
+    pub at_start : (is_static : Bool) (rules : Rules) (now : ℕ) → HasLinksIfStatic is_static links → Knows now m links (started is_static members plans rules m links)
     unfolding started
-    at_start true rules now bare = subst (λ (b : Bool). Knows members plans now m links (begun b (items_taken true members plans) (map managed_link hops) rules m)) (sym (all_enrolled members m among)) (all_known rules now)
-    at_start false rules now bare = none_known (bare refl) (starts_enrolled false members m.addr) rules now
+    at_start true rules now bare = subst (λ (b : Bool). Knows now m links (begun b (items_taken true members plans) (map managed_link hops) rules m)) (sym (all_enrolled members m among)) (all_known rules now)
+    at_start false rules now bare =
+        subst (λ (ls : List Managed). Knows now m links (begun (starts_enrolled false members m.addr) (items_taken false members plans) ls rules m)) (sym (no_links (bare refl)))
+        (none_known (bare refl) (starts_enrolled false members m.addr) rules now)

@@ -1,6 +1,6 @@
 -- The link state of a member claims its neighbours, and no others.
-use Rattle.std.proofs.Common.{◌≡◌, ◌∙◌, ◌⊎◌, inl, inr, ⊎_elim, ℕ, ◌^◌, ◌<◌, ◌==◌, Bool, true, false, cond, not, List, [], ◌∷◌, ◌++◌, Option, Some, None, Contains, length, map, filter, refl, sym, ap, subst, arith, append_assoc, length-append}
-use Rattle.std.specs.Prelude.{position, unwrap_or}
+use Rattle.std.proofs.Common.{◌≡◌, ◌∙◌, ◌⊎◌, inl, inr, ⊎_elim, ℕ, ◌^◌, ◌<◌, Bool, true, false, cond, not, List, [], ◌∷◌, ◌++◌, Option, Some, None, Contains, length, map, filter, refl, sym, ap, subst, arith, append_assoc, length-append}
+use Rattle.std.specs.Prelude.{◌&&◌, option_map, position, unwrap_or}
 use Rattle.std.specs.List.{cons_option, filter_map, fold}
 use Rattle.std.specs.Fmt.{decimal}
 use Rattle.rina_graph.specs.declared.graph.Edge.{Edge}
@@ -13,10 +13,13 @@ use Rattle.rina_route.proofs.Lists.{cases, contains_map, contains_unmap, head, i
 use Rattle.rina_route.proofs.Written.{written_item}
 use Rattle.rina_agent.specs.declared.link.Link.{Link as Managed}
 use Rattle.rina_agent.specs.declared.neighbours.Neighbour.{Neighbour}
+use Rattle.rina_agent.specs.Agenda.{is_out}
 use Rattle.rina_agent.specs.Neighbours.{is_before, joined, link_key, link_state, neighbour, neighbour_of, neighbour_text, neighbours, with_any, with_link, with_neighbour}
 use Rattle.rina_member.specs.Routing.{edge_to}
-use Rattle.rina_member.specs.Start.{managed_link, neighbour_link}
+use Rattle.rina_member.specs.Start.{neighbour_link}
+use Rattle.rina_member.specs.Knowing.{hop_of, hops_of}
 use Rattle.rina_member.proofs.Hops.{Within}
+use Rattle.rina_member.proofs.Removing.{hop}
 use Rattle.rina_member.proofs.Lists.{all_of, insert_cases, insert_new, insert_old}
 
 -- the edge to a neighbour
@@ -114,28 +117,31 @@ within_state own version out links small fits e h =
 
 -- Which edges these are
 
--- a link has another number
-abbrev pub is_other : ℕ → Hop → Bool
-is_other number h = not (number == h.number)
+-- of the links over which PDUs may leave all but the one that is left out
+abbrev pub stays_in : Option ℕ → Hop → Bool
+stays_in out h = not (is_out out h.number)
 
-abbrev hop_neighbour : Hop → Neighbour
-hop_neighbour h = neighbour h.weight h.peer
+out_step : (own number weight : ℕ) (p : Hop → Bool) (up b : Bool) (peer : Option ℕ) (rest : List Neighbour) (hs : List Hop) → ((h : Hop) → h.number ≡ number → p h ≡ b) → map (edge_by own) rest ≡ map (edge_to own) (filter p hs)
+    → map (edge_by own) (cons_option (cond (up && b) (option_map (neighbour weight) peer) None) rest) ≡ map (edge_to own) (filter p (cons_option (cond up (option_map (hop number weight) peer) None) hs))
+out_step own number weight p true true None rest hs is more = more
+out_step own number weight p true true (Some peer) rest hs is more =
+    let h : Hop = hop number weight peer in
+    ap (λ (es : List Edge). edge_to own h ∷ es) more ∙ sym (ap (λ (c : Bool). map (edge_to own) (cond c (h ∷ filter p hs) (filter p hs))) (is h refl))
+out_step own number weight p true false None rest hs is more = more
+out_step own number weight p true false (Some peer) rest hs is more =
+    let h : Hop = hop number weight peer in
+    more ∙ sym (ap (λ (c : Bool). map (edge_to own) (cond c (h ∷ filter p hs) (filter p hs))) (is h refl))
+out_step own number weight p false b peer rest hs is more = more
 
-one_live : (number : ℕ) (h : Hop) → neighbour_of (Some number) (managed_link h) ≡ cond (is_other number h) (Some (hop_neighbour h)) None
+one_out : (own : ℕ) (out : Option ℕ) (l : Managed) (rest : List Neighbour) (hs : List Hop) → map (edge_by own) rest ≡ map (edge_to own) (filter (stays_in out) hs)
+    → map (edge_by own) (cons_option (neighbour_of out l) rest) ≡ map (edge_to own) (filter (stays_in out) (cons_option (hop_of l) hs))
 unfolding neighbour_of
-one_live number h = refl
+one_out own out l rest hs more = out_step own l.number l.weight (stays_in out) l.up (not (is_out out l.number)) l.peer rest hs (λ h same. ap (λ (n : ℕ). not (is_out out n)) same) more
 
-live_step : (own : ℕ) (h : Hop) (hs : List Hop) (p : Hop → Bool) (b : Bool) (rest : List Neighbour) → map (edge_by own) rest ≡ map (edge_to own) (filter p hs)
-    → map (edge_by own) (cons_option (cond b (Some (hop_neighbour h)) None) rest) ≡ map (edge_to own) (cond b (h ∷ filter p hs) (filter p hs))
-live_step own h hs p true rest e = ap (λ (es : List Edge). edge_to own h ∷ es) e
-live_step own h hs p false rest e = e
-
--- the live links of a member but one
-pub live_edges : (own number : ℕ) (hops : List Hop) → edges_out own (Some number) (map managed_link hops) ≡ map (edge_to own) (filter (is_other number) hops)
-live_edges own number [] = refl
-live_edges own number (h ∷ hs) =
-    ap (λ (o : Option Neighbour). map (edge_by own) (cons_option o (filter_map (neighbour_of (Some number)) (map managed_link hs)))) (one_live number h)
-    ∙ live_step own h hs (is_other number) (is_other number h) (filter_map (neighbour_of (Some number)) (map managed_link hs)) (live_edges own number hs)
+-- a link state names the neighbours over these
+pub out_edges : (own : ℕ) (out : Option ℕ) (ls : List Managed) → edges_out own out ls ≡ map (edge_to own) (filter (stays_in out) (hops_of ls))
+out_edges own out [] = refl
+out_edges own out (l ∷ ls) = one_out own out l (filter_map (neighbour_of out) ls) (hops_of ls) (out_edges own out ls)
 
 one_start : (e : Edge) → neighbour_of None (neighbour_link e) ≡ Some (neighbour e.weight e.to)
 unfolding neighbour_of

@@ -64,7 +64,7 @@ removed_few [] (suc at) = omega arith
 removed_few (z ∷ xs) zero = omega arith
 removed_few (z ∷ xs) (suc at) = (let few = removed_few xs at in omega (arith, few))
 
-from_without : {A : Type 0} (place : Option ℕ) (xs : List A) (x : A) → Contains (without_at place xs) x → Contains xs x
+pub from_without : {A : Type 0} (place : Option ℕ) (xs : List A) (x : A) → Contains (without_at place xs) x → Contains xs x
 from_without None xs x h = h
 from_without (Some at) xs x h = from_removed xs at x h
 
@@ -169,7 +169,7 @@ peer_ranged weight None z small light is = absurd cc
 peer_ranged weight (Some address) z small light is = subst (λ (n : Neighbour). (n.address < 2 ^ 32) × (n.weight < 2 ^ 16)) (same_Some (neighbour weight address) z is) (small, light)
 
 flooded_ranged : (b : Bool) (l : Link) (z : Neighbour) → IsLinkInRange l → cond b (option_map (neighbour l.weight) l.peer) None ≡ Some z → (z.address < 2 ^ 32) × (z.weight < 2 ^ 16)
-flooded_ranged true l z h is = peer_ranged l.weight l.peer z h.peer h.weight is
+flooded_ranged true l z h is = (let fits = h.weight in peer_ranged l.weight l.peer z h.peer (omega (arith, fits)) is)
 flooded_ranged false l z h is = absurd cc
 
 neighbour_ranged : (out : Option ℕ) (l : Link) (z : Neighbour) → IsLinkInRange l → neighbour_of out l ≡ Some z → (z.address < 2 ^ 32) × (z.weight < 2 ^ 16)

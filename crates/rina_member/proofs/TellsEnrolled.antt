@@ -43,7 +43,7 @@ use Rattle.rina_member.proofs.Tells.{ShortOr, all_on_short, both_short, made_sho
 
 talk_ranged : (at : ℕ) (l : Link) (e : Enrolment) (event : EnrolEvent) (t : Option Talk) (h : _) → IsLinkInRange l → option_map (heard_as at l e event) t ≡ Some h → IsLinkInRange h.link
 talk_ranged at l e event None h r is = absurd (none-some h is)
-talk_ranged at l e event (Some t) h r is = subst (λ g. IsLinkInRange g.link) (same_Some (heard_as at l e event t) h is) (record { peer = r.peer; weight = r.weight })
+talk_ranged at l e event (Some t) h r is = subst (λ g. IsLinkInRange g.link) (same_Some (heard_as at l e event t) h is) (record { peer = r.peer; least = r.least; weight = r.weight })
 
 link_ranged : (at : ℕ) (m : LinkMessage) (replies : List LinkMessage) (event : EnrolEvent) (l : Link) (e : Option Enrolment) (h : _) → IsLinkInRange l → heard_by at l m replies event e ≡ Some h → IsLinkInRange h.link
 link_ranged at m replies event l None h r is = absurd (none-some h is)
@@ -62,7 +62,7 @@ heard_ranged links k m replies event h ranges is = place_ranged links m replies 
 
 -- A link is another from now on, and more messages wait
 
-set_ranged : (links : List Link) (at : ℕ) (l : Link) → ((z : Link) → Contains links z → IsLinkInRange z) → IsLinkInRange l → (z : Link) → Contains (slice_set links at l) z → IsLinkInRange z
+pub set_ranged : (links : List Link) (at : ℕ) (l : Link) → ((z : Link) → Contains links z → IsLinkInRange z) → IsLinkInRange l → (z : Link) → Contains (slice_set links at l) z → IsLinkInRange z
 set_ranged links at l ranges r z has = ⊎_elim (λ old. ranges z old) (λ same. subst (λ (x : Link). IsLinkInRange x) same r) (set_cases links at l z has)
 
 relinked_short : (g : Agent) (state : MemberState) (at : ℕ) (l : Link) → TellsShort g → IsLinkInRange l → TellsShort (record g { state = state; links = slice_set g.links at l })
@@ -139,7 +139,7 @@ started_as links k m replies event h is r g now invoke address s small =
     let up : Link = Rows.up_link (Some address) h.link in
     let batch : List Waiting = Rows.start_batch h.link.number invoke g.items (next_of g.last_invoke) in
     stated_short None (record g { last_invoke = next_of g.last_invoke; links = slice_set g.links h.at up; agenda = g.agenda ++ batch }) now
-    (replied_short g g.state (next_of g.last_invoke) h.at up batch s (record { peer = small; weight = r.weight }) (batch_short h.link.number invoke (next_of g.last_invoke) g.items s.items))
+    (replied_short g g.state (next_of g.last_invoke) h.at up batch s (record { peer = small; least = r.least; weight = r.weight }) (batch_short h.link.number invoke (next_of g.last_invoke) g.items s.items))
 
 started_does : (links : List Link) (k : ℕ) (m : LinkMessage) (replies : List LinkMessage) (event : EnrolEvent) (h : _) → hears links k m replies event ≡ Some h → IsLinkInRange h.link → (d : EnrolDo) (g : Agent) (now : ℕ) (invoke address : ℕ) → TellsShort g → address < 2 ^ 32 → ShortOr (Rows.started_as d g now h invoke address)
 started_does links k m replies event h is r does.Nothing g now invoke address s small = s
@@ -178,7 +178,7 @@ end_small : (end : End) (items : List Item) → IfThere (Rows.end_peer end items
 end_small (Joins joiner node) items = among_small node (items_under (codes "/member/") items)
 end_small (Joined member) items = tt
 
-peer_small : (e : Option Enrolment) (items : List Item) → IfThere (Rows.peer_by e items) (2 ^ 32)
+pub peer_small : (e : Option Enrolment) (items : List Item) → IfThere (Rows.peer_by e items) (2 ^ 32)
 peer_small None items = tt
 peer_small (Some e) items = end_small e.end items
 
@@ -188,7 +188,7 @@ entered_short links k m replies event h is r g now invoke s =
     let batch : List Waiting = Rows.stop_batch h.link.number invoke g.items in
     stated_short None (record g { state = Enrolled; links = slice_set g.links h.at up; agenda = g.agenda ++ batch }) now
     (
-    replied_short g Enrolled g.last_invoke h.at up batch s (record { peer = peer_small h.link.enrolment g.items; weight = r.weight })
+    replied_short g Enrolled g.last_invoke h.at up batch s (record { peer = peer_small h.link.enrolment g.items; least = r.least; weight = r.weight })
     (both_short (near h.link.number (messages.StopR invoke) ∷ []) (map (item_on h.link.number) g.items) (one_waits (near h.link.number (messages.StopR invoke)) (tt, tt)) (all_on_short h.link.number g.items s.items))
     )
 

@@ -27,10 +27,10 @@ unfolding node_of
 node_named m name = behind_named m.name name
 
 claim_ranged : (own : ℕ) (h : Hop) → IsClaim own (edge_to own h) → IsLinkInRange (managed_link h)
-claim_ranged own h c = record { peer = c.to; weight = (let small = c.weight in omega (arith, small)) }
+claim_ranged own h c = record { peer = c.to; least = c.least; weight = c.weight }
 
 edge_ranged : (own : ℕ) (e : Edge) → IsClaim own e → IsLinkInRange (neighbour_link e)
-edge_ranged own e c = record { peer = c.to; weight = (let small = c.weight in omega (arith, small)) }
+edge_ranged own e c = record { peer = c.to; least = c.least; weight = c.weight }
 
 module _ (members : List Member) (plans : List LinkPlan) (laid : IsLaidOut members plans) (named : AreNamed members) (few : HaveFewLinks members plans) where
   item_short : (m : Member) → Contains members m → IsShortItem (member_item m)

@@ -1,5 +1,5 @@
 -- What the laws say of a member that handles the SDUs of its links.
-use Rattle.std.specs.Prelude.{◌≡◌, ℕ, ◌⊎◌, false, List, ◌++◌, Contains, Option, Some, None, codes}
+use Rattle.std.specs.Prelude.{◌≡◌, ℕ, ◌⊎◌, false, List, ◌++◌, Contains, find, Option, Some, None, codes}
 use Rattle.rina_newest.specs.declared.item.Item.{Item}
 use Rattle.rina_newest.specs.Newest.{is_newer, kept_at, taken}
 use Rattle.rina_enrol.specs.declared.message.LinkMessage.{LinkMessage}
@@ -7,6 +7,7 @@ use Rattle.rina_enrol.specs.declared.message.LinkMessage.TheVariants as messages
 use Rattle.rina_agent.specs.declared.agent.Agent.{Agent}
 use Rattle.rina_agent.specs.declared.link.Link.{Link}
 use Rattle.rina_agent.specs.Agenda.{floods}
+use Rattle.rina_agent.specs.Enrolments.{is_numbered}
 use Rattle.rina_agent.specs.Neighbours.{link_key}
 use Rattle.rina_rib.specs.Laws.{LiesBelow}
 use Rattle.rina_rib.specs.Objects.{object_at}
@@ -33,9 +34,9 @@ pub record TakesNews (link : ℕ) (item : Item) (m m' : Management) : Type 0 whe
   pub takes : m'.agent ≡ record m.agent { items = taken m.agent.items item; agenda = m.agent.agenda ++ floods (Some link) item m.agent.links }
   pub shows : m'.objects ≡ with_live m.objects (taken m.agent.items item) item.key
 
--- no enrolment made a link, as in a static DIF
-abbrev pub AreUnenrolled : List Link → Type 0
-AreUnenrolled links = (l : Link) → Contains links l → l.enrolment ≡ None
+-- no enrolment made the link of a number, as none made a link of the static start
+abbrev pub IsUnenrolled : List Link → ℕ → Type 0
+IsUnenrolled links number = (l : Link) → find (is_numbered number) links ≡ Some l → l.enrolment ≡ None
 
 -- where a message brings a link state of the member itself, what the member keeps of it is as new: it alone makes it
 abbrev pub OwnIsNewest : Agent → LinkMessage → Type 0

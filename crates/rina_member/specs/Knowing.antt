@@ -1,5 +1,5 @@
 -- What the management of a member of a DIF knows, and the next hops over the items that it holds.
-use Rattle.std.specs.Prelude.{◌≡◌, ℕ, ◌^◌, ◌<◌, ◌≤◌, ◌↔◌, ◌⊎◌, true, List, [], All, Contains, flat_map, map, slice_get, Option, Some, None, option_map, if◌then◌else◌}
+use Rattle.std.specs.Prelude.{◌≡◌, ℕ, ◌^◌, ◌<◌, ◌≤◌, ◌↔◌, ◌⊎◌, true, List, All, Contains, flat_map, map, slice_get, Option, Some, None, option_map, if◌then◌else◌}
 use Rattle.std.specs.List.{filter_map}
 use Rattle.rina_graph.specs.declared.graph.Edge.{Edge}
 use Rattle.rina_newest.specs.declared.item.Item.{Item}
@@ -8,7 +8,6 @@ use Rattle.rina_route.specs.declared.link.Link.{Link as Hop}
 use Rattle.rina_route.specs.Routes.{claims_of}
 use Rattle.rina_agent.specs.declared.agent.Agent.{Agent}
 use Rattle.rina_agent.specs.declared.link.Link.{Link as Managed}
-use Rattle.rina_agent.specs.declared.state.MemberState.TheVariants.{Enrolled, Outside}
 use Rattle.rina_agent.specs.Neighbours.{link_key, member_key}
 use Rattle.rina_dir.specs.Directory.{key_of}
 use Rattle.rina_plan.specs.declared.dif.LinkPlan.{LinkPlan}
@@ -16,7 +15,8 @@ use Rattle.rina_plan.specs.Kept.{AreApart}
 use Rattle.rina_data.specs.declared.link.Link.{Link}
 use Rattle.rina_data.specs.declared.link.Route.{Route}
 use Rattle.rina_data.specs.declared.settings.Member.{Member}
-use Rattle.rina_member.specs.Routing.{AreRoutesOver, edge_to, live_links}
+use Rattle.rina_member.specs.Routing.{AreRoutesOver, edge_to, live_links, live_of}
+use Rattle.rina_member.specs.Short.{IsLinkInRange}
 use Rattle.rina_member.specs.Start.{managed_link}
 
 -- a link of management over which PDUs may leave: it is up, and its neighbour is known
@@ -75,25 +75,45 @@ IsItemKey key = IsMemberKey key ⊎ IsEntryKey key
 abbrev pub AreNumbered : List Link → Type 0
 AreNumbered links = (k : ℕ) (link : Link) → slice_get links k ≡ Some link → link.number ≡ k
 
--- a member that is outside holds nothing, and its IPC process has no links
-pub record IsOutside (links : List Link) (g : Agent) : Type 0 where
-  pub state : g.state ≡ Outside
-  pub items : g.items ≡ []
-  pub bare : links ≡ []
+-- the numbers of the live links of an IPC process, in their order, and those of the links of a management
+abbrev pub live_numbers : List Link → List ℕ
+live_numbers links = map (λ (l : Link). l.number) (live_of links)
 
--- a member is enrolled, or it is outside: no enrolment runs
-abbrev pub IsSettled : List Link → Agent → Type 0
-IsSettled links g = (g.state ≡ Enrolled) ⊎ IsOutside links g
+abbrev pub managed_numbers : List Managed → List ℕ
+managed_numbers links = map (λ (l : Managed). l.number) links
 
--- what the management of a member knows at a tick, where these are the links of its IPC process, some of which may be lost: its own
--- live links, and from its own address its items claim these alone. It keeps member items, link states and directory entries and nothing
--- else; and it made its own link state no later than now, as the last of its items at the latest. What its items claim of the other
--- members is what these made, as far as it came.
-pub record Knows (members : List Member) (plans : List LinkPlan) (now : ℕ) (m : Member) (links : List Link) (g : Agent) : Type 0 where
+-- no two live links have one number. That of a lost link may be the number of another
+abbrev pub HaveOwnNumbers : List Link → Type 0
+HaveOwnNumbers links = (j k : ℕ) (a b : Link) → slice_get links j ≡ Some a → slice_get links k ≡ Some b → a.live ≡ true → b.live ≡ true → a.number ≡ b.number → j ≡ k
+
+-- a new link may have a number: no live link has it
+abbrev pub IsFreeNumber : List Link → ℕ → Type 0
+IsFreeNumber links number = (k : ℕ) (link : Link) → slice_get links k ≡ Some link → link.live ≡ true → link.number ≡ number → ⊥
+
+-- what the management of a member knows at a tick, where these are the links of its IPC process, some of which may be lost. No two live
+-- ones have one number, and it has a link for each of them, of the same number, in the same order. A link state can name each of its
+-- links, and from its own address its items claim the known neighbours at those that are up, and nothing else. It keeps member items,
+-- link states and directory entries alone; and it made its own link state no later than now, as the last of its items at the latest.
+-- What its items claim of the other members is what these made, as far as it came.
+pub record Knows (now : ℕ) (m : Member) (links : List Link) (g : Agent) : Type 0 where
   pub address : g.address ≡ m.addr
-  pub settled : IsSettled links g
-  pub numbers : AreNumbered links
-  pub links_are : g.links ≡ map managed_link (live_links members plans m links)
-  pub own : ClaimLinks g.items m.addr (live_links members plans m links)
+  pub fits : m.addr < 2 ^ 32
+  pub apart : HaveOwnNumbers links
+  pub numbers : managed_numbers g.links ≡ live_numbers links
+  pub ranges : (l : Managed) → Contains g.links l → IsLinkInRange l
+  pub own : ClaimLinks g.items m.addr (hops_of g.links)
   pub keys : (item : Item) → Contains g.items item → IsItemKey item.key
   pub past : (item : Item) → kept_at g.items (link_key m.addr) ≡ Some item → (item.version.tick ≤ now) × (item.version.count ≤ g.last_count)
+
+-- an IPC process has a live link of a number
+pub record HasLiveLink (links : List Link) (number : ℕ) : Type 0 where
+  pub place : ℕ
+  pub link : Link
+  pub stands : slice_get links place ≡ Some link
+  pub live : link.live ≡ true
+  pub is_number : link.number ≡ number
+
+-- a member of a static DIF has the live links of the plan, with their neighbours and weights, and its links are numbered by their places
+pub record IsPlanned (members : List Member) (plans : List LinkPlan) (m : Member) (links : List Link) (g : Agent) : Type 0 where
+  pub numbers : AreNumbered links
+  pub links_are : g.links ≡ map managed_link (live_links members plans m links)

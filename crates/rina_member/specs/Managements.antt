@@ -1,5 +1,5 @@
 -- What each event makes of the management of a member: of its items, and of the objects that it shows.
-use Rattle.std.specs.Prelude.{◌≡◌, ℕ, ◌-◌, ◌==◌, ◌⊎◌, Bool, true, List, [], ◌∷◌, Option, Some, None, Result, Ok, Err, if◌then◌else◌}
+use Rattle.std.specs.Prelude.{◌≡◌, ℕ, ◌-◌, ◌==◌, ◌⊎◌, Bool, true, List, [], ◌∷◌, ◌++◌, Option, Some, None, Result, Ok, Err, if◌then◌else◌}
 use Rattle.std.specs.Global.{Vec}
 use Rattle.std.specs.List.{fold}
 use Rattle.std.specs.Fmt.{decimal}
@@ -20,7 +20,7 @@ use Rattle.rina_agent.specs.Agenda.{without_first}
 use Rattle.rina_agent.specs.Counts.{spent}
 use Rattle.rina_agent.specs.Items.{made}
 use Rattle.rina_agent.specs.Neighbours.{link_key, member_key}
-use Rattle.rina_agent.specs.Rows.{handled, lost}
+use Rattle.rina_agent.specs.Rows.{handled, joined_link, joining, lost}
 use Rattle.rina_dir.specs.Directory.{key_of}
 use Rattle.rina_rib.specs.Rows.{Tree}
 use Rattle.rina_member.specs.declared.management.Management.{Management}
@@ -78,6 +78,21 @@ abbrev pub MayLoseLink : ℕ → ℕ → Management → Result Management AgentE
 MayLoseLink now number m (Ok m') = LosesLink now number m m'
 MayLoseLink now number m (Err (CountSpent need left)) = lost m.agent now number ≡ Err (CountSpent need left)
 MayLoseLink now number m (Err Memory) = Unit {0}
+
+-- a member gets a new link of a number, on which another may join
+abbrev pub claimed : Agent → ℕ → Agent
+claimed g number = record g { links = g.links ++ joined_link number ∷ [] }
+
+-- with another agent, and the objects as they were
+abbrev pub with_agent : Management → Agent → Management
+with_agent m g = record m { agent = g }
+
+-- a member asks for an enrolment at the member of a name on a node, on a new link of a number: CONNECT waits there, and its objects stay.
+-- Or no invoke id is left; nothing is told where memory ran out
+abbrev pub MayJoin : ℕ → List ℕ → List ℕ → Management → Result Management AgentError → Type 0
+MayJoin number member node m (Ok m') = (spent 1 m.agent.last_invoke ≡ None) × (m' ≡ with_agent m (joining m.agent number member node))
+MayJoin number member node m (Err (CountSpent need left)) = spent 1 m.agent.last_invoke ≡ Some (CountSpent need left)
+MayJoin number member node m (Err Memory) = Unit {0}
 
 -- SDUs that are sent
 

@@ -29,10 +29,11 @@ AreShort agenda = (waiting : Waiting) → Contains agenda waiting → IsShort wa
 abbrev pub IsShortItem : Item → Type 0
 IsShortItem item = IsProperItem item × IsReplicated item
 
--- the numbers of a link are those of their types
+-- the address of the neighbour at a link, where it is known, has 32 bits, and the link weighs from 1 to 65,535
 pub record IsLinkInRange (l : Link) : Type 0 where
   pub peer : IfThere l.peer (2 ^ 32)
-  pub weight : l.weight < 2 ^ 16
+  pub least : 1 ≤ l.weight
+  pub weight : l.weight ≤ 65535
 
 -- a member tells short messages alone, now and from now on: its names are names, it keeps replicated items, it has at most 16 links, and
 -- what waits is short
@@ -44,6 +45,20 @@ pub record TellsShort (g : Agent) : Type 0 where
   pub few : length g.links ≤ 16
   pub ranges : (l : Link) → Contains g.links l → IsLinkInRange l
   pub waiting : AreShort g.agenda
+
+-- a message is to the neighbour at the other end of a link
+abbrev pub IsToNeighbour : ManagementMessage → Type 0
+IsToNeighbour (ToNeighbour message) = Unit {0}
+IsToNeighbour (ToMember message) = ⊥
+
+-- so is each that waits
+abbrev pub AreToNeighbours : List Waiting → Type 0
+AreToNeighbours agenda = (waiting : Waiting) → Contains agenda waiting → IsToNeighbour waiting.message
+
+-- the messages of a member are short, and go to its neighbours alone, now and from now on
+pub record TellsNeighbours (g : Agent) : Type 0 where
+  pub short : TellsShort g
+  pub near : AreToNeighbours g.agenda
 
 -- of a static DIF: the members have names of applications, and each has at most 16 links
 abbrev pub AreNamed : List Member → Type 0

@@ -1,5 +1,5 @@
 //! The laws of a member that handles the SDUs of its links. These functions do nothing: their contracts are laws.
-ghost use Rattle.std.specs.Prelude.{◌≡◌, ◌<◌, ◌≤◌, ◌^◌, ℕ, Bool, false, true, length, slice_get, slice_set, Contains, List, Err, IfSome, None, Ok, Option, Some};
+ghost use Rattle.std.specs.Prelude.{◌≡◌, ◌<◌, ◌≤◌, ◌^◌, ◌++◌, ◌∷◌, [], ℕ, Bool, false, true, length, slice_get, slice_set, Contains, List, Err, IfSome, None, Ok, Option, Some};
 ghost use Rattle.std.specs.Fmt.{decimal};
 ghost use Rattle.rina_access.specs.declared.rules.Rules.{Rules};
 ghost use Rattle.rina_base.specs.Names.{app_at};
@@ -15,18 +15,19 @@ ghost use Rattle.rina_agent.specs.declared.state.AgentError.TheVariants.{CountSp
 ghost use Rattle.rina_agent.specs.declared.state.MemberState.TheVariants.{Enrolled};
 ghost use Rattle.rina_agent.specs.Counts.{spent};
 ghost use Rattle.rina_agent.specs.Items.{made};
-ghost use Rattle.rina_agent.specs.Rows.{lost};
+ghost use Rattle.rina_agent.specs.Rows.{joining, lost};
 ghost use Rattle.rina_dir.specs.Directory.{key_of};
 ghost use Rattle.rina_data.specs.declared.link.Link.{Link};
 ghost use Rattle.rina_data.specs.declared.link.Route.{Route};
 ghost use Rattle.rina_data.specs.declared.settings.Member.{Member};
+ghost use Rattle.rina_data.specs.Process.{next_hop};
 ghost use Rattle.rina_plan.specs.declared.dif.LinkPlan.{LinkPlan};
 ghost use Rattle.rina_member.specs.declared.management.Management.{Management};
-ghost use Rattle.rina_member.specs.Handling.{AreUnenrolled, BringsItemName, IsSameMember, KeepsOthers, KeepsOutsideItems, OwnIsNewest, TakesNews, item_in};
-ghost use Rattle.rina_member.specs.Knowing.{AreLive, AreNumbered, AreRoutesOf, IsLaidOut, KeepsOtherClaims, Knows, SameEdges, all_claims};
-ghost use Rattle.rina_member.specs.Managements.{Handles, HandlesSdu, IsNews, IsSdu, LosesLink, MakesEntry, entered, entry_of, is_news, keys_brought, takes_item, with_sent};
-ghost use Rattle.rina_member.specs.Routing.{AreRoutesOver, edges_from, edges_of, live_links};
-ghost use Rattle.rina_member.specs.Short.{AreNamed, HaveFewLinks, IsShort, TellsShort};
+ghost use Rattle.rina_member.specs.Handling.{BringsItemName, IsSameMember, IsUnenrolled, KeepsOthers, KeepsOutsideItems, OwnIsNewest, TakesNews, item_in};
+ghost use Rattle.rina_member.specs.Knowing.{AreLive, AreNumbered, AreRoutesOf, HasLiveLink, IsFreeNumber, IsLaidOut, IsPlanned, KeepsOtherClaims, Knows, SameEdges, all_claims, hops_of};
+ghost use Rattle.rina_member.specs.Managements.{Handles, HandlesSdu, IsNews, IsSdu, LosesLink, MakesEntry, claimed, entered, entry_of, is_news, keys_brought, takes_item, with_sent};
+ghost use Rattle.rina_member.specs.Routing.{AreRoutesOver, edges_from, edges_of, live_links, live_of};
+ghost use Rattle.rina_member.specs.Short.{AreNamed, HaveFewLinks, IsShort, TellsNeighbours};
 ghost use Rattle.rina_member.specs.Start.{HasLinksIfStatic, items_held, started};
 
 /// An SDU is handled as the one message that it is. It changes nothing where that is no news, or about a flow.
@@ -42,10 +43,10 @@ pub fn an_item_that_is_news_is_taken()
     ensures counts { (now link need left : ℕ) (sdu : List ℕ) (message : LinkMessage) (item : Item) (m : Management) → IsSdu message sdu → item_in message ≡ Some item → HandlesSdu now link sdu m (Err (CountSpent need left)) → ⊥ }
 {}
 
-/// Where no enrolment made a link, the messages of enrolments change nothing, and no message needs a version count.
-pub fn a_member_without_enrolments_takes_items_alone()
-    ensures same { (now link : ℕ) (message : LinkMessage) (m m' : Management) → AreUnenrolled m.agent.links → item_in message ≡ None → Handles now link message m m' → m' ≡ m }
-    ensures counts { (now link need left : ℕ) (sdu : List ℕ) (m : Management) → AreUnenrolled m.agent.links → HandlesSdu now link sdu m (Err (CountSpent need left)) → ⊥ }
+/// On a link that no enrolment made, the messages of enrolments change nothing, and no message needs a version count.
+pub fn a_link_without_an_enrolment_brings_items_alone()
+    ensures same { (now link : ℕ) (message : LinkMessage) (m m' : Management) → IsUnenrolled m.agent.links link → item_in message ≡ None → Handles now link message m m' → m' ≡ m }
+    ensures counts { (now link need left : ℕ) (sdu : List ℕ) (m : Management) → IsUnenrolled m.agent.links link → HandlesSdu now link sdu m (Err (CountSpent need left)) → ⊥ }
 {}
 
 /// Whatever message it handles, a member is who it was, with the rules that it had, and the objects stay as they were but for those of
@@ -56,15 +57,25 @@ pub fn a_message_changes_the_objects_of_its_items()
     ensures outside { (now link : ℕ) (message : LinkMessage) (m m' : Management) → BringsItemName message → Handles now link message m m' → KeepsOutsideItems m.objects m'.objects }
 {}
 
-/// A member of a DIF tells short messages alone from the start, and goes on to do so when it takes a directory entry, makes one with
-/// its own address or deletes one, loses a link, sends a message, and handles a short one.
+/// A member of a DIF tells short messages to its neighbours alone from the start, and goes on to do so when it takes a directory entry, makes
+/// one with its own address or deletes one, gets a link or asks for an enrolment on a new one, where it has fewer than 16, loses a
+/// link, sends a message, and handles a short one.
 pub fn a_member_tells_short_messages()
-    ensures starts { (is_static : Bool) (members : List Member) (plans : List LinkPlan) (rules : Rules) (m : Member) (links : List Link) → IsLaidOut members plans → AreNamed members → HaveFewLinks members plans → Contains members m → length links ≤ 16 → TellsShort (started is_static members plans rules m links) }
-    ensures enters { (app : List ℕ) (address : ℕ) (m : Management) → app_at app ≡ Ok app → address < 2 ^ 32 → TellsShort m.agent → TellsShort (entered app address m).agent }
-    ensures makes { (now : ℕ) (app : List ℕ) (value : Option (List ℕ)) (m m' : Management) → app_at app ≡ Ok app → IfSome value (λ text. text ≡ decimal m.agent.address) → MakesEntry now app value m m' → TellsShort m.agent → TellsShort m'.agent }
-    ensures loses { (now link : ℕ) (m m' : Management) → LosesLink now link m m' → TellsShort m.agent → TellsShort m'.agent }
-    ensures sends { (link : ℕ) (m : Management) → TellsShort m.agent → TellsShort (with_sent m link).agent }
-    ensures handles { (now link : ℕ) (message : LinkMessage) (m m' : Management) → IsInRange message → IsShort (ToNeighbour message) → Handles now link message m m' → TellsShort m.agent → TellsShort m'.agent }
+    ensures starts { (is_static : Bool) (members : List Member) (plans : List LinkPlan) (rules : Rules) (m : Member) (links : List Link) → IsLaidOut members plans → AreNamed members → HaveFewLinks members plans → Contains members m → length links ≤ 16 → TellsNeighbours (started is_static members plans rules m links) }
+    ensures enters { (app : List ℕ) (address : ℕ) (m : Management) → app_at app ≡ Ok app → address < 2 ^ 32 → TellsNeighbours m.agent → TellsNeighbours (entered app address m).agent }
+    ensures makes { (now : ℕ) (app : List ℕ) (value : Option (List ℕ)) (m m' : Management) → app_at app ≡ Ok app → IfSome value (λ text. text ≡ decimal m.agent.address) → MakesEntry now app value m m' → TellsNeighbours m.agent → TellsNeighbours m'.agent }
+    ensures joins { (number : ℕ) (member node : List ℕ) (g : Agent) → app_at member ≡ Ok member → length g.links < 16 → TellsNeighbours g → TellsNeighbours (joining g number member node) }
+    ensures claims { (number : ℕ) (g : Agent) → length g.links < 16 → TellsNeighbours g → TellsNeighbours (claimed g number) }
+    ensures loses { (now link : ℕ) (m m' : Management) → LosesLink now link m m' → TellsNeighbours m.agent → TellsNeighbours m'.agent }
+    ensures sends { (link : ℕ) (m : Management) → TellsNeighbours m.agent → TellsNeighbours (with_sent m link).agent }
+    ensures handles { (now link : ℕ) (message : LinkMessage) (m m' : Management) → IsInRange message → IsShort (ToNeighbour message) → Handles now link message m m' → TellsNeighbours m.agent → TellsNeighbours m'.agent }
+{}
+
+/// A member that is enrolled stays so: when it handles a message, asks for a further enrolment, and loses a link.
+pub fn a_member_stays_enrolled()
+    ensures handles { (now link : ℕ) (message : LinkMessage) (m m' : Management) → Handles now link message m m' → m.agent.state ≡ Enrolled → m'.agent.state ≡ Enrolled }
+    ensures joins { (number : ℕ) (member node : List ℕ) (g : Agent) → g.state ≡ Enrolled → (joining g number member node).state ≡ Enrolled }
+    ensures loses { (now number : ℕ) (g g' : Agent) → lost g now number ≡ Ok g' → g.state ≡ Enrolled → g'.state ≡ Enrolled }
 {}
 
 /// The items of the start claim the links of the plan, and no others. So the next hops over them are over these links.
@@ -73,15 +84,30 @@ pub fn the_start_claims_the_plan()
     ensures routes { (is_static : Bool) (members : List Member) (plans : List LinkPlan) (rules : Rules) (m : Member) (links : List Link) (routes : List Route) → IsLaidOut members plans → HasLinksIfStatic is_static plans → Contains members m → AreRoutesOf (started is_static members plans rules m links) members routes → AreRoutesOver m.addr (live_links members plans m links) (edges_of members plans) members routes }
 {}
 
-/// A member of a DIF knows its live links from the start, and goes on to do so when it takes or makes a directory entry, when it
-/// loses a link, which leaves what its items claim of others, and when it handles a message that members of its DIF send. None of these
-/// makes a member enrolled, or outside. A member that is outside takes and makes nothing.
+/// A member of a DIF knows its links from the start, and goes on to do so as time passes, when it takes or makes a directory entry, gets
+/// a link or asks for an enrolment on a new one, sends a message, loses a link, which leaves what its items claim of others, and
+/// when it handles a message that members of its DIF send.
 pub fn a_member_knows_its_links()
-    ensures starts { (is_static : Bool) (members : List Member) (plans : List LinkPlan) (rules : Rules) (m : Member) (links : List Link) (now : ℕ) → IsLaidOut members plans → HasLinksIfStatic is_static links → Contains members m → AreNumbered links → AreLive links → length (edges_from members m.node plans) ≤ length links → Knows members plans now m links (started is_static members plans rules m links) }
-    ensures enters { (members : List Member) (plans : List LinkPlan) (now : ℕ) (m : Member) (links : List Link) (g : Agent) (app : List ℕ) (address : ℕ) → g.state ≡ Enrolled → Knows members plans now m links g → Knows members plans now m links (takes_item g (entry_of app address)) }
-    ensures makes { (members : List Member) (plans : List LinkPlan) (now : ℕ) (m : Member) (links : List Link) (g : Agent) (app : List ℕ) (value : Option (List ℕ)) → g.state ≡ Enrolled → spent 1 g.last_count ≡ None → Knows members plans now m links g → Knows members plans now m links (made None g now (key_of app) value) }
-    ensures loses { (members : List Member) (plans : List LinkPlan) (now : ℕ) (m : Member) (links : List Link) (g g' : Agent) (k : ℕ) (link : Link) → IsLaidOut members plans → Contains members m → Knows members plans now m links g → slice_get links k ≡ Some link → link.live ≡ true → lost g now link.number ≡ Ok g' → Knows members plans now m (slice_set links k (record link { live = false })) g' × KeepsOtherClaims m.addr g.items g'.items × (g'.state ≡ g.state) }
-    ensures handles { (members : List Member) (plans : List LinkPlan) (now tick number : ℕ) (m : Member) (links : List Link) (message : LinkMessage) (old new : Management) → old.agent.state ≡ Enrolled → Knows members plans now m links old.agent → CarriesReplicated message → OwnIsNewest old.agent message → Handles tick number message old new → Knows members plans now m links new.agent × (new.agent.state ≡ Enrolled) }
-    // Its next hops are over its live links and the edges that its items claim.
-    ensures routes { (members : List Member) (plans : List LinkPlan) (now : ℕ) (m : Member) (links : List Link) (g : Agent) (routes : List Route) → Knows members plans now m links g → AreRoutesOf g members routes → AreRoutesOver m.addr (live_links members plans m links) (all_claims g.items) members routes }
+    ensures starts { (is_static : Bool) (members : List Member) (plans : List LinkPlan) (rules : Rules) (m : Member) (links : List Link) (now : ℕ) → IsLaidOut members plans → HasLinksIfStatic is_static links → Contains members m → AreNumbered links → AreLive links → length (edges_from members m.node plans) ≡ length links → Knows now m links (started is_static members plans rules m links) }
+    ensures passes { (now later : ℕ) (m : Member) (links : List Link) (g : Agent) → now ≤ later → Knows now m links g → Knows later m links g }
+    ensures enters { (now : ℕ) (m : Member) (links : List Link) (g : Agent) (app : List ℕ) (address : ℕ) → Knows now m links g → Knows now m links (takes_item g (entry_of app address)) }
+    ensures makes { (now : ℕ) (m : Member) (links : List Link) (g : Agent) (app : List ℕ) (value : Option (List ℕ)) → spent 1 g.last_count ≡ None → Knows now m links g → Knows now m links (made None g now (key_of app) value) }
+    ensures joins { (now : ℕ) (m : Member) (links : List Link) (g : Agent) (link : Link) (member node : List ℕ) → IsFreeNumber links link.number → link.live ≡ true → Knows now m links g → Knows now m (links ++ link ∷ []) (joining g link.number member node) }
+    ensures claims { (now : ℕ) (m : Member) (links : List Link) (g : Agent) (link : Link) → IsFreeNumber links link.number → link.live ≡ true → Knows now m links g → Knows now m (links ++ link ∷ []) (claimed g link.number) }
+    ensures loses { (now : ℕ) (m : Member) (links : List Link) (g g' : Agent) (k : ℕ) (link : Link) → Knows now m links g → slice_get links k ≡ Some link → link.live ≡ true → lost g now link.number ≡ Ok g' → Knows now m (slice_set links k (record link { live = false })) g' × KeepsOtherClaims m.addr g.items g'.items }
+    ensures sends { (now : ℕ) (m : Member) (links : List Link) (management : Management) (number : ℕ) → Knows now m links management.agent → Knows now m links (with_sent management number).agent }
+    ensures handles { (now number : ℕ) (m : Member) (links : List Link) (message : LinkMessage) (old new : Management) → Knows now m links old.agent → IsInRange message → CarriesReplicated message → OwnIsNewest old.agent message → Handles now number message old new → Knows now m links new.agent }
+    // Its next hops are over its links that are up and the edges that its items claim; each is the number of a live link of its IPC process.
+    ensures routes { (now : ℕ) (m : Member) (links : List Link) (g : Agent) (members : List Member) (routes : List Route) → Knows now m links g → AreRoutesOf g members routes → AreRoutesOver m.addr (hops_of g.links) (all_claims g.items) members routes }
+    ensures live { (now : ℕ) (m : Member) (links : List Link) (g : Agent) (members : List Member) (routes : List Route) (dst number : ℕ) → Knows now m links g → AreRoutesOf g members routes → next_hop dst routes ≡ Some number → HasLiveLink links number }
+    // It has as many links as its IPC process has live ones.
+    ensures count { (now : ℕ) (m : Member) (links : List Link) (g : Agent) → Knows now m links g → length g.links ≡ length (live_of links) }
+{}
+
+/// A member of a static DIF has the live links of the plan from the start, with their neighbours and weights, and goes on to have them when
+/// it loses a link and handles a message. Its links that are up are those.
+pub fn a_member_of_a_static_dif_keeps_the_plan()
+    ensures loses { (members : List Member) (plans : List LinkPlan) (now : ℕ) (m : Member) (links : List Link) (g g' : Agent) (k : ℕ) (link : Link) → IsPlanned members plans m links g → slice_get links k ≡ Some link → link.live ≡ true → lost g now link.number ≡ Ok g' → IsPlanned members plans m (slice_set links k (record link { live = false })) g' }
+    ensures handles { (members : List Member) (plans : List LinkPlan) (now number : ℕ) (m : Member) (links : List Link) (message : LinkMessage) (old new : Management) → IsPlanned members plans m links old.agent → Handles now number message old new → IsPlanned members plans m links new.agent }
+    ensures up { (members : List Member) (plans : List LinkPlan) (m : Member) (links : List Link) (g : Agent) → IsPlanned members plans m links g → hops_of g.links ≡ live_links members plans m links }
 {}

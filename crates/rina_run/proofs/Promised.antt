@@ -64,7 +64,7 @@ pub written_off_if : (tower : Option Tower) → IfSome tower IsTower → IfSome 
 written_off_if = of_each_if IsWrittenOffIn written_off_in
 
 routed_in : (d : Dif) (below : Seen) → Stands d below → IsRoutedIn d below
-routed_in d below stands = managed_routed d.settings.members d.laid.links d.clock d.processes d.managements stands.1.managed
+routed_in d below stands = managed_routed d.laid.is_static d.settings.members d.laid.links d.clock d.processes d.managements stands.1.managed
 
 pub routed_if : (tower : Option Tower) → IfSome tower IsTower → IfSome tower RoutesAll
 routed_if = of_each_if IsRoutedIn routed_in

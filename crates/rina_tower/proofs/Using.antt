@@ -9,7 +9,7 @@ use Rattle.rina_iface.specs.declared.ends.End.{End}
 use Rattle.rina_iface.specs.declared.error.SendError.{SendError}
 use Rattle.rina_iface.specs.Ends.{with_passed, with_sent}
 use Rattle.rina_iface.specs.Pass.{IsPassed}
-use Rattle.rina_iface.specs.Seen.{Fac, Seen, Stands as StandsThere}
+use Rattle.rina_iface.specs.Seen.{Fac, Seen, Stands as StandsThere, end_of}
 use Rattle.rina_iface.specs.Send.{IsSent}
 use Rattle.rina_iface.proofs.Found.{end_of_stands}
 use Rattle.rina_law.specs.Direction.{Direction}
@@ -34,6 +34,8 @@ use Rattle.rina_dif_law.specs.Standing.{IsStanding}
 use Rattle.rina_dif_law.proofs.Finding.{beside, live_link}
 use Rattle.rina_flows.specs.declared.flows.Flows.{Flows}
 use Rattle.rina_channel.specs.declared.channel.Channel.{Channel}
+use Rattle.rina_channel.specs.Channels.{IsOnPort}
+use Rattle.rina_channel.proofs.Below.{on_link}
 use Rattle.rina_dif.specs.declared.dif.Dif.{Dif}
 use Rattle.rina_dif.specs.Clocking.{ClockStepsAt, Serves, ServesAny, Steps, StepsOk}
 use Rattle.rina_dif.specs.Holding.{Holds, LinksStand, Stands}
@@ -81,7 +83,7 @@ ins_use d lines below i n (Ok (ins.Took key end)) d' lines' below' ipc st h =
 ins_use d lines below i n (Err errors.Memory) d' lines' below' ipc st h = inl h.2
 ins_use d lines below i n (Err errors.NoIpc) d' lines' below' ipc st h = inl h.3
 ins_use d lines below i n (Err errors.NoLink) d' lines' below' ipc st h = inl h.3
-ins_use d lines below i n (Err (errors.CountSpent need left)) d' lines' below' ipc st h = absurd h
+ins_use d lines below i n (Err (errors.CountSpent need left)) d' lines' below' ipc st h = inl h.2
 
 ins_home : (d : DifSeen) (lines : List Direction) (below : Seen) (n : ℕ) (r : Result InStep StepError) (d' : DifSeen) (lines' : List Direction) (below' : Seen) (o : Option ℕ) → AreIpc d.config.members → IsStanding d lines below
     → AtHome o (λ i. Ins d lines below i n r d' lines' below') ((r ≡ Err errors.NoIpc) × (d' ≡ d) × (lines' ≡ lines) × (below' ≡ below)) → MayUse below below'
@@ -158,16 +160,24 @@ leaves_use refuses d d' below node n r below' ipc st does = outs_at refuses (see
 
 -- What comes with time
 
--- the end below of the link that gives up is that of an IPC process
-freed_ipc : (d : Dif) (below : Seen) (place : ℕ) (channel : Channel) (f : Fac) (at : ℕ) (e : End) → AreIpc (config_of d.settings).members → LinksStand d below → slice_get d.connections.channels place ≡ Some channel → StandsThere below channel.port f at e → IsIpc e.app
-freed_ipc d below place channel f at e ipc links is there =
-    let flow = (links.standing.channels.joined place channel is).flow in
-    let same : flow.near_end ≡ e = same_Some flow.near_end e (sym flow.is_near ∙ end_of_stands below channel.port f at e there) in
-    subst (λ (z : End). IsIpc z.app) same (ipc flow.near_end.app flow.mine)
+-- the end below of a channel's link is that of an IPC process
+link_below : (d : Dif) (below : Seen) (place : ℕ) (channel : Channel) (port : Port) → AreIpc (config_of d.settings).members → LinksStand d below → slice_get d.connections.channels place ≡ Some channel → IsOnPort channel port → (end : End) × (end_of below port ≡ Some end) × IsIpc end.app
+link_below d below place channel port ipc links is on =
+    let j = links.standing.channels.joined place channel is in
+    elim (j.partner.link) as (λ o. j.partner.link ≡ o → (end : End) × (end_of below port ≡ Some end) × IsIpc end.app) [
+      | Some far ↦ λ e. (let f = j.flow port far.port on (on_link j.partner far e) in (f.near_end, f.is_near, ipc f.near_end.app f.mine))
+      | None ↦ λ e. (let b = j.alone port on e in (b.end, b.here, ipc b.end.app b.mine))
+    ] refl
+
+-- so it is of the link that gives up
+freed_ipc : (d : Dif) (below : Seen) (place : ℕ) (channel : Channel) (port : Port) (f : Fac) (at : ℕ) (e : End) → AreIpc (config_of d.settings).members → LinksStand d below → slice_get d.connections.channels place ≡ Some channel → IsOnPort channel port → StandsThere below port f at e → IsIpc e.app
+freed_ipc d below place channel port f at e ipc links is on there =
+    let l = link_below d below place channel port ipc links is on in
+    subst (λ (z : End). IsIpc z.app) (same_Some l.0 e (sym l.1 ∙ end_of_stands below port f at e there)) l.2
 
 links_use : (d : Dif) (below : Seen) (ipc : AreIpc (config_of d.settings).members) (links : LinksStand d below) (i place : ℕ) (done : ClockStep) (new : DifSeen) (flows' : Flows) (below' : Seen) → DoesLink d links.lines below i place done new flows' below' → MayUse below below'
 links_use d below ipc links i place (clocks.Gone cep) new flows' below' h = inl h.2
-links_use d below ipc links i place (clocks.GaveUp num) new flows' below' h = inr (inr (record { port = h.channel.port; both = h.both; freed = h.freed; ipc = freed_ipc d below place h.channel h.freed.facility h.freed.place h.freed.end ipc links h.stands h.freed.stands }))
+links_use d below ipc links i place (clocks.GaveUp num) new flows' below' h = inr (inr (record { port = h.attached.port; both = h.both; freed = h.freed; ipc = freed_ipc d below place h.channel h.attached.port h.freed.facility h.freed.place h.freed.end ipc links h.stands (on_link h.channel h.attached h.attached_is) h.freed.stands }))
 links_use d below ipc links i place (clocks.Ack cep) new flows' below' h = inl h.2
 links_use d below ipc links i place (clocks.Again num) new flows' below' h = inl h.1
 links_use d below ipc links i place clocks.Idle new flows' below' h = absurd h

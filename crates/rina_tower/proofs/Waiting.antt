@@ -66,7 +66,7 @@ ins_wait d lines below i n (Ok (ins.Took key end)) d' lines' below' h = settles_
 ins_wait d lines below i n (Err errors.Memory) d' lines' below' h = ap (λ (x : DifSeen). x.waiting) h.0
 ins_wait d lines below i n (Err errors.NoIpc) d' lines' below' h = ap (λ (x : DifSeen). x.waiting) h.1
 ins_wait d lines below i n (Err errors.NoLink) d' lines' below' h = ap (λ (x : DifSeen). x.waiting) h.1
-ins_wait d lines below i n (Err (errors.CountSpent need left)) d' lines' below' h = absurd h
+ins_wait d lines below i n (Err (errors.CountSpent need left)) d' lines' below' h = ap (λ (x : DifSeen). x.waiting) h.0
 
 ins_home : (d : DifSeen) (lines : List Direction) (below : Seen) (n : ℕ) (r : Result InStep StepError) (d' : DifSeen) (lines' : List Direction) (below' : Seen) (o : Option ℕ)
     → AtHome o (λ i. Ins d lines below i n r d' lines' below') ((r ≡ Err errors.NoIpc) × (d' ≡ d) × (lines' ≡ lines) × (below' ≡ below)) → SameWait d d'

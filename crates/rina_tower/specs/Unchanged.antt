@@ -48,10 +48,10 @@ ChangesProcesses d d' = d' ≡ record d { processes = d'.processes; failed = d'.
 abbrev pub ChangesTraffic : Dif → Dif → Type 0
 ChangesTraffic d d' = d' ≡ record d { processes = d'.processes; flows = d'.flows; failed = d'.failed }
 
--- nothing but its IPC processes, the managements of its members, its flows and the management connections of its links, and whether an
--- allocation has failed
+-- nothing but its IPC processes, the managements of its members, which of these are enrolled, its flows and the management connections of its
+-- links, and whether an allocation has failed
 abbrev pub ChangesConnections : Dif → Dif → Type 0
-ChangesConnections d d' = d' ≡ record d { processes = d'.processes; flows = d'.flows; connections = d'.connections; managements = d'.managements; failed = d'.failed }
+ChangesConnections d d' = d' ≡ record d { processes = d'.processes; flows = d'.flows; connections = d'.connections; managements = d'.managements; enrolled = d'.enrolled; failed = d'.failed }
 
 -- nothing but its IPC processes, the managements and the CEP-ids of its members and its flows, and whether an allocation has failed
 abbrev pub ChangesMembers : Dif → Dif → Type 0

@@ -1,10 +1,7 @@
--- The bodies so far were handled, and the links are as they were.
-use Rattle.std.proofs.Common.{◌≡◌, take}
+-- The bodies so far were handled.
+use Rattle.std.proofs.Common.{take}
 use Rattle.rina_dif.specs.Handling.{HandlesInTurn}
 use Rattle.rina_dif.proofs.messages_in.after_bodies.Given as goal
 
 abbrev pub invariant-loop-body : goal.invariant-loop-body
-invariant-loop-body l = record {
-  turns : HandlesInTurn l.now l.number (take l.body-index l.bodies) l.fn.management l.after;
-  links : l.after.agent.links ≡ l.fn.management.agent.links;
-}
+invariant-loop-body l = HandlesInTurn l.now l.number (take l.body-index l.bodies) l.fn.management l.after

@@ -1,14 +1,16 @@
 -- The member handled all that came, or there was nothing to handle.
-use Rattle.std.proofs.Common.{◌≡◌, ℕ, ◌<◌, length, Option, Some, refl, subst, sym}
+use Rattle.std.proofs.Common.{◌≡◌, ◌∙◌, ℕ, ◌<◌, List, length, Option, Some, ap, refl, subst, sym}
 use Rattle.std.specs.Prelude.{IfSome}
 use Rattle.std.proofs.lemmas.Option.{slice_get_within}
 use Rattle.rina_dif.specs.declared.dif.Dif.{Dif}
 use Rattle.rina_dif.specs.declared.messages_in.Handled.{Handled}
-use Rattle.rina_dif.specs.Handling.{HandlesAs, IsHandled}
+use Rattle.rina_dif.specs.Handling.{HandlesAs, IsHandled, TellsNodes}
+use Rattle.rina_dif.specs.Managing.{StayEnrolled}
 use Rattle.rina_dif.specs.Routing.{SetsRoutes}
-use Rattle.rina_dif.proofs.Learned.{at_place, handles_after, handles_leave}
+use Rattle.rina_dif.proofs.Enrolled.{nodes_stay}
+use Rattle.rina_dif.proofs.Learned.{at_place, handles_after, handles_leave, stays_enrolled}
 use Rattle.rina_dif.proofs.Leaves.{has_process}
-use Rattle.rina_dif.proofs.Unlinked.{agent_within}
+use Rattle.rina_dif.proofs.Unlinked.{agent_within, has_agent}
 use Rattle.rina_dif.proofs.dif.Dif.handle_messages.Goals as goal
 
 told : (d : Dif) (at number : ℕ) (found : Option Handled) (w : Handled) → found ≡ Some w → IfSome found (IsHandled d at number) → IsHandled d at number w
@@ -33,17 +35,52 @@ set-requires c = subst (λ (d : Dif). c.args.at < length d.managements) (sym c.p
 pub returns-in_default-clause-does : goal.returns-in_default-clause-does
 returns-in_default-clause-does c = λ lines below h. subst (λ (o : Option Handled). HandlesAs c.args.self.now lines below c.args.at c.args.number o c.args.self.now) (sym c.in_default.is) refl
 
-pub returns-clause-does : goal.returns-clause-does
-returns-clause-does c = λ lines below h.
+-- Others are enrolled
+
+pub returns-in-Some-enrolled-clause-does : goal.returns-in-Some-enrolled-clause-does
+returns-in-Some-enrolled-clause-does c = λ lines below h.
     let d = c.args.self.now in
     let w = c.in-Some.handled in
     let is = told d c.args.at c.args.number c.args.handled w c.in-Some.is c.requires.handled in
-    subst (λ (o : Option Handled). HandlesAs d lines below c.args.at c.args.number o (record c.pass_messages.new.self { processes = c.set_routes.new.self; managements = c.set.new.self })) (sym c.in-Some.is)
-    (handles_after d c.args.at w.place c.args.number is.here c.requires.at c.what_comes_was_made_by_a_member.ensures c.requires.alive w.management w.routes c.pass_messages.new.self c.set.new.self c.set_routes.new.self
-    is.handles is.routes c.pass_messages.ensures.passes c.pass_messages.ensures.stand c.pass_messages.ensures.whole c.set_routes.ensures c.set.ensures lines below h)
+    let nodes = subst (λ (o : Option (List ℕ)). TellsNodes d c.args.at w.management o) c.in-Some-enrolled.is is.enrolled in
+    subst (λ (ns : List ℕ). HandlesAs d lines below c.args.at c.args.number c.args.handled (record c.pass_messages.new.self { processes = c.set_routes.new.self; managements = c.set.new.self; enrolled = ns })) (sym c.in-Some-enrolled.nodes-is)
+    (subst (λ (o : Option Handled). HandlesAs d lines below c.args.at c.args.number o (record c.pass_messages.new.self { processes = c.set_routes.new.self; managements = c.set.new.self; enrolled = c.in-Some-enrolled.nodes })) (sym c.in-Some.is)
+    (handles_after d c.args.at w.place c.args.number is.here c.requires.at c.what_comes_was_made_by_a_member.ensures c.requires.alive w.management w.routes c.pass_messages.new.self c.set.new.self c.set_routes.new.self c.in-Some-enrolled.nodes
+    is.handles is.routes c.pass_messages.ensures.passes c.pass_messages.ensures.stand c.pass_messages.ensures.whole c.set_routes.ensures c.set.ensures nodes lines below h))
 
-pub returns-clause-leaves : goal.returns-clause-leaves
-returns-clause-leaves c =
+pub returns-in-Some-enrolled-clause-enrolled : goal.returns-in-Some-enrolled-clause-enrolled
+returns-in-Some-enrolled-clause-enrolled c =
+    let d = c.args.self.now in
+    let w = c.in-Some.handled in
+    let is = told d c.args.at c.args.number c.args.handled w c.in-Some.is c.requires.handled in
+    let nodes = subst (λ (o : Option (List ℕ)). TellsNodes d c.args.at w.management o) c.in-Some-enrolled.is is.enrolled in
+    subst (λ (ns : List ℕ). StayEnrolled d.enrolled ns) (sym (c.in-Some-enrolled.nodes-is ∙ nodes))
+    (stays_enrolled d c.args.at w.place c.args.number is.here c.requires.at c.what_comes_was_made_by_a_member.ensures c.requires.alive c.requires.stands w.management is.handles)
+
+pub returns-in-Some-enrolled-clause-leaves : goal.returns-in-Some-enrolled-clause-leaves
+returns-in-Some-enrolled-clause-leaves c =
+    let d = c.args.self.now in
+    let w = c.in-Some.handled in
+    let is = told d c.args.at c.args.number c.args.handled w c.in-Some.is c.requires.handled in
+    handles_leave d c.args.at w.place c.args.number is.here c.requires.at c.requires.stands w.routes c.set_routes.new.self
+    (subst (λ (z : Dif). SetsRoutes c.args.at w.routes z.processes c.set_routes.new.self) c.pass_messages.ensures.whole c.set_routes.ensures)
+
+-- The same are
+
+pub returns-in_default-enrolled-clause-does : goal.returns-in_default-enrolled-clause-does
+returns-in_default-enrolled-clause-does c = λ lines below h.
+    let d = c.args.self.now in
+    let w = c.in-Some.handled in
+    let is = told d c.args.at c.args.number c.args.handled w c.in-Some.is c.requires.handled in
+    let g = has_agent d lines below c.args.at c.requires.at h in
+    let same = subst (λ (o : Option (List ℕ)). TellsNodes d c.args.at w.management o) c.in_default-enrolled.is is.enrolled in
+    let nodes = ap (λ (z : Dif). z.enrolled) c.pass_messages.ensures.whole ∙ nodes_stay d c.args.at g.0 w.management h.enrolled g.1 (same g.0 g.1) in
+    subst (λ (o : Option Handled). HandlesAs d lines below c.args.at c.args.number o (record c.pass_messages.new.self { processes = c.set_routes.new.self; managements = c.set.new.self })) (sym c.in-Some.is)
+    (handles_after d c.args.at w.place c.args.number is.here c.requires.at c.what_comes_was_made_by_a_member.ensures c.requires.alive w.management w.routes c.pass_messages.new.self c.set.new.self c.set_routes.new.self c.pass_messages.new.self.enrolled
+    is.handles is.routes c.pass_messages.ensures.passes c.pass_messages.ensures.stand c.pass_messages.ensures.whole c.set_routes.ensures c.set.ensures nodes lines below h)
+
+pub returns-in_default-enrolled-clause-leaves : goal.returns-in_default-enrolled-clause-leaves
+returns-in_default-enrolled-clause-leaves c =
     let d = c.args.self.now in
     let w = c.in-Some.handled in
     let is = told d c.args.at c.args.number c.args.handled w c.in-Some.is c.requires.handled in

@@ -1,7 +1,7 @@
 -- The member handled what waits at the end that takes the piece, and what the piece makes whole there.
 use Rattle.rina_base.specs.Pdus.{pdu_of}
 use Rattle.rina_data.specs.Hops.{hop_of}
-use Rattle.rina_dif.proofs.Learned.{free_at, taken_at}
+use Rattle.rina_dif.proofs.Learned.{taken_at}
 use Rattle.rina_dif.proofs.OnLinks.{link_within}
 use Rattle.rina_dif.proofs.Unlinked.{agent_within}
 use Rattle.rina_dif.proofs.dif.Dif.handled_ahead.Goals as goal
@@ -17,9 +17,3 @@ management_ahead-requires-clause-conn c = (link_within c.args.self.now.connectio
 
 pub management_ahead-requires-clause-taken : goal.management_ahead-requires-clause-taken
 management_ahead-requires-clause-taken c = taken_at c.args.self.now c.in-Some.place c.requires.stands
-
-pub management_ahead-requires-clause-unenrolled : goal.management_ahead-requires-clause-unenrolled
-management_ahead-requires-clause-unenrolled c = free_at c.args.self.now c.args.at c.requires.at c.requires.stands
-
-pub returns : goal.returns
-returns c = record { its = pdu_of c.in-Some.pdu; takes = c.in-Some.ensures; handles = c.in_ok-management.ensures; routes = c.in_ok-routes.ensures }

@@ -1,5 +1,4 @@
-use Rattle.std.proofs.Common.{◌∙◌, sym, ap}
-use Rattle.rina_dif.specs.declared.dif.Dif.{Dif}
+use Rattle.std.proofs.Common.{◌∙◌, sym}
 use Rattle.rina_dif.proofs.Beside.{in_is_step, no_step, step_noted}
 use Rattle.rina_dif.proofs.Taken.{takes_home, takes_none, takes_nowhere}
 use Rattle.rina_dif.proofs.Elsewhere.{in_noted}
@@ -28,13 +27,13 @@ pub returns-in_default-clause-silent : goal.returns-in_default-clause-silent
 returns-in_default-clause-silent g c = (no_step c.args.self.now (g.F.Facility.seen c.args.below.now) c.requires.stands).silent
 
 pub returns-clause-goes_on : goal.returns-clause-goes_on
-returns-clause-goes_on g c = (step_noted c.args.self.now (g.F.Facility.seen c.args.below.now) c.in_step_at-step.new.self c.remember_memory_failure.new.failed (g.F.Facility.seen c.in_step_at-step.new.below) (in_is_step c.args.self.now (g.F.Facility.seen c.args.below.now) c.in-Some.at c.args.link c.in_step_at-step.result c.in_step_at-step.new.self (g.F.Facility.seen c.in_step_at-step.new.below) (ap (λ (z : Dif). z.enrolled) c.in_step_at-step.ensures.whole) (g.met.F.Facility.kept c.args.below.now c.requires.valid) (g.met.F.Facility.kept c.in_step_at-step.new.below c.in_step_at-step.ensures.valid) c.requires.stands (c.in_step_at-step.ensures.does c.requires.stands.0 c.requires.stands.1))).goes_on
+returns-clause-goes_on g c = (step_noted c.args.self.now (g.F.Facility.seen c.args.below.now) c.in_step_at-step.new.self c.remember_memory_failure.new.failed (g.F.Facility.seen c.in_step_at-step.new.below) (in_is_step c.args.self.now (g.F.Facility.seen c.args.below.now) c.in-Some.at c.args.link c.in_step_at-step.result c.in_step_at-step.new.self (g.F.Facility.seen c.in_step_at-step.new.below) c.in_step_at-step.ensures.enrolled (g.met.F.Facility.kept c.args.below.now c.requires.valid) (g.met.F.Facility.kept c.in_step_at-step.new.below c.in_step_at-step.ensures.valid) c.requires.stands (c.in_step_at-step.ensures.does c.requires.stands.0 c.requires.stands.1))).goes_on
 
 pub returns-clause-silent : goal.returns-clause-silent
-returns-clause-silent g c = (step_noted c.args.self.now (g.F.Facility.seen c.args.below.now) c.in_step_at-step.new.self c.remember_memory_failure.new.failed (g.F.Facility.seen c.in_step_at-step.new.below) (in_is_step c.args.self.now (g.F.Facility.seen c.args.below.now) c.in-Some.at c.args.link c.in_step_at-step.result c.in_step_at-step.new.self (g.F.Facility.seen c.in_step_at-step.new.below) (ap (λ (z : Dif). z.enrolled) c.in_step_at-step.ensures.whole) (g.met.F.Facility.kept c.args.below.now c.requires.valid) (g.met.F.Facility.kept c.in_step_at-step.new.below c.in_step_at-step.ensures.valid) c.requires.stands (c.in_step_at-step.ensures.does c.requires.stands.0 c.requires.stands.1))).silent
+returns-clause-silent g c = (step_noted c.args.self.now (g.F.Facility.seen c.args.below.now) c.in_step_at-step.new.self c.remember_memory_failure.new.failed (g.F.Facility.seen c.in_step_at-step.new.below) (in_is_step c.args.self.now (g.F.Facility.seen c.args.below.now) c.in-Some.at c.args.link c.in_step_at-step.result c.in_step_at-step.new.self (g.F.Facility.seen c.in_step_at-step.new.below) c.in_step_at-step.ensures.enrolled (g.met.F.Facility.kept c.args.below.now c.requires.valid) (g.met.F.Facility.kept c.in_step_at-step.new.below c.in_step_at-step.ensures.valid) c.requires.stands (c.in_step_at-step.ensures.does c.requires.stands.0 c.requires.stands.1))).silent
 
 pub returns-clause-others : goal.returns-clause-others
-returns-clause-others g c = (step_noted c.args.self.now (g.F.Facility.seen c.args.below.now) c.in_step_at-step.new.self c.remember_memory_failure.new.failed (g.F.Facility.seen c.in_step_at-step.new.below) (in_is_step c.args.self.now (g.F.Facility.seen c.args.below.now) c.in-Some.at c.args.link c.in_step_at-step.result c.in_step_at-step.new.self (g.F.Facility.seen c.in_step_at-step.new.below) (ap (λ (z : Dif). z.enrolled) c.in_step_at-step.ensures.whole) (g.met.F.Facility.kept c.args.below.now c.requires.valid) (g.met.F.Facility.kept c.in_step_at-step.new.below c.in_step_at-step.ensures.valid) c.requires.stands (c.in_step_at-step.ensures.does c.requires.stands.0 c.requires.stands.1))).others
+returns-clause-others g c = (step_noted c.args.self.now (g.F.Facility.seen c.args.below.now) c.in_step_at-step.new.self c.remember_memory_failure.new.failed (g.F.Facility.seen c.in_step_at-step.new.below) (in_is_step c.args.self.now (g.F.Facility.seen c.args.below.now) c.in-Some.at c.args.link c.in_step_at-step.result c.in_step_at-step.new.self (g.F.Facility.seen c.in_step_at-step.new.below) c.in_step_at-step.ensures.enrolled (g.met.F.Facility.kept c.args.below.now c.requires.valid) (g.met.F.Facility.kept c.in_step_at-step.new.below c.in_step_at-step.ensures.valid) c.requires.stands (c.in_step_at-step.ensures.does c.requires.stands.0 c.requires.stands.1))).others
 
 pub returns-clause-leaves : goal.returns-clause-leaves
 returns-clause-leaves g c = in_noted c.in_step_at-step.result c.remember_memory_failure.result c.args.self.now (record c.in_step_at-step.new.self { failed = c.remember_memory_failure.new.failed }) c.args.node c.in-Some.at (sym c.place_at_node.ensures.place ∙ c.in-Some.is) c.remember_memory_failure.ensures.same c.in_step_at-step.ensures.leaves

@@ -2,5 +2,5 @@
 use Rattle.rina_dif.proofs.Among.{NoneBefore}
 use Rattle.rina_dif.proofs.dif.Dif.offer_message.Given as goal
 
-abbrev pub invariant-loop-place : goal.invariant-loop-place
-invariant-loop-place g l = NoneBefore l.fn.self l.self (g.F.Facility.seen l.below) l.at l.place
+abbrev pub invariant-loop-number : goal.invariant-loop-number
+invariant-loop-number g l = NoneBefore l.fn.self l.self (g.F.Facility.seen l.below) l.at l.number
