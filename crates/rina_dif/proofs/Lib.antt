@@ -36,6 +36,7 @@ pub mod Laid
 pub mod Lapsed
 pub mod Lastly
 pub mod Leaves
+pub mod LinkEnds
 pub mod LinkFirst
 pub mod LinksLive
 pub mod LinkFlows
@@ -46,6 +47,7 @@ pub mod MessageSteps
 pub mod Moves
 pub mod Named
 pub mod Naming
+pub mod NewLinks
 pub mod Offered
 pub mod OnLinks
 pub mod OpenEnd
