@@ -56,6 +56,7 @@ use Rattle.rina_dif.proofs.Keeping.{IsSameHouse, home_set}
 use Rattle.rina_dif.proofs.Leaves.{shown_at, stepped}
 use Rattle.rina_dif.proofs.Flooding.{SameTexts, said_floods, set_said}
 use Rattle.rina_dif.specs.Flooding.{AreFlooding}
+use Rattle.rina_dif.proofs.LinkEnds.{live_floods}
 
 -- Whatever an end of a link makes
 
@@ -85,7 +86,7 @@ served_holds d lines below i p p' c' manage h is room same serves written connec
       managed = house.managed;
       enrolled = h.enrolled;
       connected = subst (λ (z : DifSeen). AreConnected (config_of d.settings) d.clock c' z.processes below) (sym seen) connected;
-      flooded = floods;
+      flooded = λ alive. live_floods (record d { connections = c' }) ps house.live (floods alive);
     }
 
 -- How many pieces an end holds

@@ -54,6 +54,7 @@ use Rattle.rina_dif.specs.Freeing.{RestsAt}
 use Rattle.rina_dif.specs.IdRests.{AreRests, GaveFirst, GaveOne, RestsHere}
 use Rattle.rina_dif.proofs.GivenBack.{cube_here, ids_here}
 use Rattle.rina_dif.proofs.Connected.{kept_by}
+use Rattle.rina_dif.proofs.LinkEnds.{live_floods}
 
 same_some : {X : Type 0} (o : Option X) (a b : X) → o ≡ Some a → o ≡ Some b → a ≡ b
 same_some o a b h g = cc
@@ -187,7 +188,7 @@ last_fails d at node lost port loss links flows p p' g' place_is clock_is lt her
         managed = house.managed;
         enrolled = holds.enrolled;
         connected = kept_by (config_of d.settings) d.clock mid.connections (seen_of mid).processes (seen_of d').processes below (λ may. failing_leaves (seen_of mid) lines node l.link.port (seen_of d') by) holds.connected;
-        flooded = holds.flooded;
+        flooded = λ alive. live_floods mid (slice_set d.processes at p') house.live (holds.flooded alive);
       },
     )
 

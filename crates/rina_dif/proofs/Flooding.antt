@@ -1,7 +1,7 @@
 -- The members of a DIF stay a network in which what one of them makes is flooded to all.
 use Rattle.std.proofs.Common.{◌≡◌, ◌∙◌, ℕ, zero, suc, ◌+◌, ◌≤◌, Bool, true, false, cond, List, [], ◌∷◌, ◌++◌, Contains, map, slice_get, slice_set, take, Option, Some, None, option_map, Ok, refl, sym, ap, subst, inl, inr, arith}
 use Rattle.std.specs.Prelude.{find}
-use Rattle.std.proofs.lemmas.Bool.{true≢false}
+use Rattle.std.proofs.lemmas.Bool.{cases_Bool, true≢false}
 use Rattle.std.proofs.lemmas.Bool.Decides.{eqb_tells}
 use Rattle.std.proofs.lemmas.List.{map-set, take-append-le}
 use Rattle.std.proofs.lemmas.Option.{slice_get-map}
@@ -17,7 +17,9 @@ use Rattle.rina_base.specs.declared.cause.Cause.TheVariants as causes
 use Rattle.rina_base.specs.declared.number.Port.{Port}
 use Rattle.rina_base.specs.declared.pdu.Pdu.{Pdu}
 use Rattle.rina_account.specs.declared.ledger.Off.{Off}
-use Rattle.rina_channel.specs.Channels.{ChannelsSeen}
+use Rattle.rina_channel.specs.declared.channel.Attachment.{Attachment}
+use Rattle.rina_channel.specs.declared.channel.Channel.{Channel}
+use Rattle.rina_channel.specs.Channels.{ChannelsSeen, HasLive, IsOnPort}
 use Rattle.rina_channel.specs.Coming.{TakesOnLink, TakesPiece}
 use Rattle.rina_channel.specs.LinkCloud.{LinkCloud}
 use Rattle.rina_channel.specs.Names.{link_config, named}
@@ -36,7 +38,7 @@ use Rattle.rina_dif_law.specs.Incoming.{arrived, found, joined_by}
 use Rattle.rina_dif_law.proofs.Forgot.{found_got}
 use Rattle.rina_dif_law.proofs.Own.{direction_in}
 use Rattle.rina_flood.specs.Members.{IsRunOf, LosesLinkAt, MembersSeen}
-use Rattle.rina_flood.specs.Network.{Side, Near, Far, There}
+use Rattle.rina_flood.specs.Network.{Side, Near, Far, Gone, There}
 use Rattle.rina_flood.specs.Static.{LinkEnd, end_place}
 use Rattle.rina_flood.proofs.Members.{goes_on_run, loses_run, makes_run, takes_run}
 use Rattle.rina_iface.specs.declared.ends.End.{End}
@@ -53,10 +55,13 @@ use Rattle.rina_flows.specs.declared.flows.Flows.{Flows}
 use Rattle.rina_member.specs.declared.management.Management.{Management}
 use Rattle.rina_member.specs.Managements.{entered, entry_of, takes_item}
 use Rattle.rina_dif.specs.declared.dif.Dif.{Dif}
-use Rattle.rina_dif.specs.Connected.{LinksAreConnected}
-use Rattle.rina_dif.specs.Flooding.{AreFlooding, handled_at, link_end, members_seen, offered_at, state_by, texts_of}
-use Rattle.rina_dif.specs.Managing.{AreManaged, agents_of}
+use Rattle.rina_dif.specs.Connected.{HasConnection}
+use Rattle.rina_dif.specs.Flooding.{AreFlooding, handled_at, is_live_at, link_end, members_seen, offered_at, state_by, texts_of}
+use Rattle.rina_dif.specs.Holding.{LinksStand}
+use Rattle.rina_dif.specs.LinkDue.{is_link_of}
+use Rattle.rina_dif.specs.Managing.{agents_of}
 use Rattle.rina_dif.proofs.Bare.{map_at}
+use Rattle.rina_dif.proofs.LinkEnds.{LosesOne, is_its_link, lost_not_live, others_live, same_but_one, state_there}
 
 -- The clock goes on
 
@@ -160,18 +165,68 @@ not_refused g g' now number up None is done on = refl
 not_refused g g' now number true (Some e) is done on = absurd (cc)
 not_refused g g' now number false (Some e) is done on = absurd (true≢false (sym on ∙ is))
 
-pub lost_floods : (d : Dif) (at number : ℕ) (m : Member) (p : IpcProcess) (g g' : Management) (place : ℕ) (link : Link) → AreManaged d → LinksAreConnected d.connections.channels (map process_of d.processes) → slice_get d.settings.members at ≡ Some m → slice_get d.processes at ≡ Some p → slice_get d.managements at ≡ Some g
-    → slice_get p.links place ≡ Some link → link.live ≡ true → link.number ≡ number → loses_link g.agent d.clock number ≡ Ok g'.agent → AreFlooding d → AreFlooding (record d { managements = slice_set d.managements at g' })
-lost_floods d at number m p g g' place link managed each is_m is_p is_g stands live number_is loses r =
-    let new : Dif = record d { managements = slice_set d.managements at g' } in
-    let shown : slice_get (map process_of d.processes) at ≡ Some (process_of p) = slice_get-map process_of d.processes at ∙ ap (λ (o : Option IpcProcess). option_map process_of o) is_p in
-    let c = each at number link.port (record { process = process_of p; is_process = shown; place = place; link = link; stands = stands; live = live; number_is = number_is; port_is = refl }) in
+-- the ends once a link is lost: that of the link is gone, and all others stay
+module _ (d : Dif) (at number : ℕ) (p p' : IpcProcess) (link : Link) (lost : LosesOne d.processes at p p' link) (c : HasConnection d.connections.channels at number link.port) (apart : (j k : ℕ) (a b : Channel) (port : Port) → slice_get d.connections.channels j ≡ Some a → slice_get d.connections.channels k ≡ Some b → IsOnPort a port → IsOnPort b port → j ≡ k) where
+  abbrev ends_of : List IpcProcess → List LinkEnd
+  ends_of ps = map (link_end ps) d.connections.channels
+
+  abbrev ps' : List IpcProcess
+  ps' = slice_set d.processes at p'
+
+  -- an attachment of another channel is of another link
+  other_link : (k : ℕ) (x : Channel) (a : Attachment) → slice_get d.connections.channels k ≡ Some x → x.link ≡ Some a → (k ≡ c.place → ⊥) → is_link_of a link ≡ false
+  other_link k x a is attached other = elim (cases_Bool (is_link_of a link)) [
+    | inl same ↦
+        (let its = is_its_link a link same in
+        absurd (other (apart k c.place x c.channel link.port is c.is_channel (record { link = a; link_is = attached; port_is = sym its.2 }) (record { link = c.attached; link_is = c.attached_is; port_is = c.port_is }))))
+    | inr differs ↦ differs
+  ]
+
+  other_state : (k : ℕ) (x : Channel) (o : Option Attachment) → slice_get d.connections.channels k ≡ Some x → x.link ≡ o → (k ≡ c.place → ⊥) → state_by ps' x.member o ≡ state_by d.processes x.member o
+  other_state k x None is attached other = refl
+  other_state k x (Some a) is attached other = ap (λ (b : Bool). cond b (There a.number) Gone) (others_live d.processes at p p' link lost x.member a (other_link k x a is attached other))
+
+  other_end : (k : ℕ) (x : Channel) → slice_get d.connections.channels k ≡ Some x → (k ≡ c.place → ⊥) → link_end ps' x ≡ link_end d.processes x
+  other_end k x is other = (let state = other_state k x x.link is refl other in λ i. record { member = x.member; state = state i })
+
+  but_one : ends_of ps' ≡ slice_set (ends_of d.processes) c.place (link_end ps' c.channel)
+  but_one = same_but_one (link_end d.processes) (link_end ps') d.connections.channels c.place c.channel c.is_channel other_end
+
+  -- the end was there
+  abbrev pub its_end : LinkEnd
+  its_end = record { member = at; state = There number }
+
+  pub end_was : HasLive (map process_of d.processes) at number link.port → link_end d.processes c.channel ≡ its_end
+  end_was live =
+      let here : HasLive (map process_of d.processes) c.channel.member c.attached.number c.attached.port = subst (λ (k : ℕ). HasLive (map process_of d.processes) k c.attached.number c.attached.port) (sym c.member_is) (subst (λ (n : ℕ). HasLive (map process_of d.processes) at n c.attached.port) (sym c.number_is) (subst (HasLive (map process_of d.processes) at number) (sym c.port_is) live)) in
+      let state : state_by d.processes c.channel.member c.channel.link ≡ There number = ap (state_by d.processes c.channel.member) c.attached_is ∙ state_there d.processes c.channel.member c.attached here ∙ ap (λ (n : ℕ). There n) c.number_is in
+      (λ i. record { member = c.member_is i; state = state i })
+
+  -- it is gone
+  end_now : link.number ≡ number → link_end ps' c.channel ≡ record its_end { state = Gone }
+  end_now number_is =
+      let dead : is_live_at ps' at c.attached ≡ false = lost_not_live d.processes at p p' link lost c.attached (number_is ∙ sym c.number_is) in
+      let its : is_live_at ps' c.channel.member c.attached ≡ false = ap (λ (k : ℕ). is_live_at ps' k c.attached) c.member_is ∙ dead in
+      let gone : state_by ps' c.channel.member c.channel.link ≡ Gone = ap (state_by ps' c.channel.member) c.attached_is ∙ ap (λ (b : Bool). cond b (There c.attached.number) Gone) its in
+      (λ i. record { member = c.member_is i; state = gone i })
+
+  pub ends_now : link.number ≡ number → ends_of ps' ≡ slice_set (ends_of d.processes) c.place (record its_end { state = Gone })
+  ends_now number_is = but_one ∙ ap (slice_set (ends_of d.processes) c.place) (end_now number_is)
+
+pub lost_floods : (d : Dif) (below : Seen) (at number : ℕ) (m : Member) (p p' : IpcProcess) (g g' : Management) (link : Link) → LinksStand d below → slice_get d.settings.members at ≡ Some m → slice_get d.managements at ≡ Some g → LosesOne d.processes at p p' link → link.number ≡ number
+    → loses_link g.agent d.clock number ≡ Ok g'.agent → AreFlooding d → AreFlooding (record d { processes = slice_set d.processes at p'; managements = slice_set d.managements at g' })
+lost_floods d below at number m p p' g g' link links is_m is_g one number_is loses r =
+    let new : Dif = record d { processes = slice_set d.processes at p'; managements = slice_set d.managements at g' } in
+    let shown : slice_get (map process_of d.processes) at ≡ Some (process_of p) = slice_get-map process_of d.processes at ∙ ap (λ (o : Option IpcProcess). option_map process_of o) one.is in
+    let has_live : HasLive (map process_of d.processes) at number link.port = record { process = process_of p; is_process = shown; place = one.place; link = link; stands = one.stands; live = one.live; number_is = number_is; port_is = refl } in
+    let c = links.each at number link.port has_live in
+    let apart = links.standing.channels.apart in
     let side = side_at c.place in
     let end : LinkEnd = record { member = at; state = There number } in
-    let state : state_by c.channel.link ≡ There number = ap state_by c.attached_is ∙ ap (λ (k : ℕ). There k) c.number_is in
-    let end_is : link_end c.channel ≡ end = (λ i. record { member = c.member_is i; state = state i }) in
     let agent : slice_get (agents_of d.managements) at ≡ Some g.agent = slice_get-map (λ (z : Management). z.agent) d.managements at ∙ ap (option_map (λ (z : Management). z.agent)) is_g in
-    let is_end : slice_get (map link_end d.connections.channels) (end_place side.0 side.1) ≡ Some end = ap (slice_get (map link_end d.connections.channels)) side.2 ∙ slice_get-map link_end d.connections.channels c.place ∙ ap (option_map link_end) c.is_channel ∙ ap (λ (e : LinkEnd). Some e) end_is in
+    let ends : List LinkEnd = map (link_end d.processes) d.connections.channels in
+    let is_end : slice_get ends (end_place side.0 side.1) ≡ Some end = ap (slice_get ends) side.2 ∙ slice_get-map (link_end d.processes) d.connections.channels c.place ∙ ap (option_map (link_end d.processes)) c.is_channel ∙ ap (λ (e : LinkEnd). Some e) (end_was d at number p p' link one c apart has_live) in
+    let now = ends_now d at number p p' link one c apart number_is in
     let event : LosesLinkAt (members_seen d) (members_seen new) = record {
       link = side.0;
       side = side.1;
@@ -184,7 +239,7 @@ lost_floods d at number m p g g' place link managed each is_m is_p is_g stands l
       after = g'.agent;
       loses = loses;
       members = refl;
-      ends = inl refl;
+      ends = inr (subst (λ (k : ℕ). (members_seen new).ends ≡ slice_set ends k (record end { state = Gone })) (sym side.2) now);
       now = refl;
       agents = map-set (λ (z : Management). z.agent) d.managements at g';
       sent = λ k. refl;

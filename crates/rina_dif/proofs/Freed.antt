@@ -73,6 +73,7 @@ use Rattle.rina_dif.proofs.Owning.{arrived_seen}
 use Rattle.rina_channel.proofs.Leaving.{ending_leaves}
 use Rattle.rina_dif.proofs.Connected.{kept_by}
 use Rattle.std.proofs.lemmas.Bool.{false≢true}
+use Rattle.rina_dif.proofs.LinkEnds.{live_floods}
 
 pub same_end : (o : Option End) (a b : End) → o ≡ Some a → o ≡ Some b → a ≡ b
 same_end o a b h g = cc
@@ -115,7 +116,7 @@ closes d i at end (Ok done) flows ps lt here is allocated stops rest held rests 
         managed = house.managed;
         enrolled = h.enrolled;
         connected = kept_by (config_of d.settings) d.clock d.connections (seen_of d).processes (seen_of d').processes below (λ may. ending_leaves (seen_of d) lines at Closed (seen_of d') ended) h.connected;
-        flooded = h.flooded;
+        flooded = λ alive. live_floods d ps house.live (h.flooded alive);
       };
     }
 closes d i at end (Err e) flows ps lt here is allocated stops rest held rests gave lines below h =

@@ -30,6 +30,7 @@ use Rattle.rina_dif.proofs.Connected.{kept_by}
 use Rattle.rina_dif.proofs.Hearing.{agent_at, turn}
 use Rattle.rina_dif.proofs.Leaves.{shown_at, stepped}
 use Rattle.rina_dif.proofs.Rerouted.{admitted, admitted_flows, admitted_written, rerouted_flows, rerouted_leaves, rerouted_written}
+use Rattle.rina_dif.proofs.LinkEnds.{ends_stay, set_stays}
 
 -- One member is managed otherwise
 
@@ -79,7 +80,7 @@ module _ (d : Dif) (i place number : ℕ) (here : IsLinkEnd d i place number) (g
     members = d.settings.members;
     agents = slice_set-same (agents_of d.managements) i g.agent (agent_at d i place number here g is_g below links) j;
     now = d.clock;
-    ends = map link_end d.connections.channels;
+    ends = map (link_end d.processes) d.connections.channels;
     sent = λ k. offered_at (slice_get (slice_set-same d.connections.flows.journal.ends place here.end here.is_end j) k);
     got = λ k. handled_at (slice_get (slice_set-same d.connections.flows.journal.ends place here.end here.is_end j) k);
   })
@@ -89,7 +90,7 @@ module _ (d : Dif) (i place number : ℕ) (here : IsLinkEnd d i place number) (g
     members = d.settings.members;
     agents = map-set (λ (z : Management). z.agent) d.managements i after j;
     now = d.clock;
-    ends = map link_end d.connections.channels;
+    ends = ends_stay d.processes d'.processes (set_stays d.processes i p (with_routes p routes) is_p refl) d.connections.channels j;
     sent = λ k. offered_at (slice_get (ends j) k);
     got = λ k. handled_at (slice_get (ends j) k);
   })

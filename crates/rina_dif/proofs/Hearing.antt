@@ -27,7 +27,7 @@ use Rattle.rina_member.specs.declared.management.Management.{Management}
 use Rattle.rina_member.specs.Managements.{HandlesSdu, is_news}
 use Rattle.rina_dif.specs.declared.dif.Dif.{Dif}
 use Rattle.rina_dif.specs.Connected.{channels_seen}
-use Rattle.rina_dif.specs.Flooding.{handled_at, link_end, offered_at, state_by, texts_of}
+use Rattle.rina_dif.specs.Flooding.{handled_at, link_end, offered_at, texts_of}
 use Rattle.rina_dif.specs.Handling.{HandlesInTurn, HandlesOne, or_same}
 use Rattle.rina_dif.specs.Holding.{LinksStand}
 use Rattle.rina_dif.specs.LinkDue.{IsLinkEnd}
@@ -35,6 +35,7 @@ use Rattle.rina_dif.specs.Managing.{agents_of}
 use Rattle.rina_dif.specs.Shown.{seen_of}
 use Rattle.rina_dif.proofs.Flooding.{side_at}
 use Rattle.rina_dif.proofs.Partners.{IsFromPartner, got_from, paired_with}
+use Rattle.rina_dif.proofs.LinkEnds.{end_there}
 
 -- One message
 
@@ -119,7 +120,7 @@ module _ (d : Dif) (i place number : ℕ) (here : IsLinkEnd d i place number) (g
     members = d.settings.members;
     agents = slice_set (agents_of d.managements) i m.agent;
     now = d.clock;
-    ends = map link_end d.connections.channels;
+    ends = map (link_end d.processes) d.connections.channels;
     sent = λ k. offered_at (slice_get (ends_at n) k);
     got = λ k. handled_at (slice_get (ends_at n) k);
   }
@@ -148,11 +149,11 @@ module _ (d : Dif) (i place number : ℕ) (here : IsLinkEnd d i place number) (g
   abbrev pub its_end : LinkEnd
   its_end = record { member = i; state = There number }
 
-  there : slice_get (map link_end d.connections.channels) (end_place l (other side)) ≡ Some its_end
+  there : slice_get (map (link_end d.processes) d.connections.channels) (end_place l (other side)) ≡ Some its_end
   there =
-      let state : state_by here.channel.link ≡ There number = ap state_by here.live.link_is ∙ ap (λ (k : ℕ). There k) (sym here.number_is) in
-      let end_is : link_end here.channel ≡ its_end = (λ j. record { member = here.member j; state = state j }) in
-      ap (slice_get (map link_end d.connections.channels)) to_place ∙ slice_get-map link_end d.connections.channels place ∙ ap (option_map link_end) here.stands ∙ ap (λ (e : LinkEnd). Some e) end_is
+      let numbers = sym here.number_is in
+      let end_is : link_end d.processes here.channel ≡ its_end = end_there d.processes here.channel here.live ∙ (λ j. record { member = here.member j; state = There (numbers j) }) in
+      ap (slice_get (map (link_end d.processes) d.connections.channels)) to_place ∙ slice_get-map (link_end d.processes) d.connections.channels place ∙ ap (option_map (link_end d.processes)) here.stands ∙ ap (λ (e : LinkEnd). Some e) end_is
 
   pub agent_at : slice_get (agents_of d.managements) i ≡ Some g.agent
   agent_at = slice_get-map (λ (z : Management). z.agent) d.managements i ∙ ap (option_map (λ (z : Management). z.agent)) is_g

@@ -72,7 +72,7 @@ ends_split [] i pair h = absurd cc
 ends_split (p ∷ ps) zero pair h = (let same : p ≡ pair = cc in (ends_of ps, ap (λ (z : Port × Port). z.0 ∷ z.1 ∷ ends_of ps) same))
 ends_split (p ∷ ps) (suc i) pair h = (let r = ends_split ps i pair h in (r.0, ap (λ (zs : List Port). p.0 ∷ p.1 ∷ zs) r.1))
 
-ends_long : (ports : List (Port × Port)) → length (ends_of ports) ≡ 2 * length ports
+pub ends_long : (ports : List (Port × Port)) → length (ends_of ports) ≡ 2 * length ports
 ends_long [] = refl
 ends_long (p ∷ ps) = (let rest = ends_long ps in omega (arith, rest))
 
@@ -359,7 +359,7 @@ all_stand s manage clock ports ps n c le made below links =
           let on = some_on x.0.link live.link.port x.2 in
           let its_link : HasLive (map process_of ps) i k on.0.port = record { process = live.process; is_process = live.is_process; place = live.place; link = live.link; stands = live.stands; live = live.live; number_is = live.number_is; port_is = sym on.2 } in
           let its = was.standing.channels.matched i k at.0 x.0 on.0 x.1 on.1 its_link in
-          record { place = at.0; channel = x.0; is_channel = x.1; member_is = its.0; attached = on.0; attached_is = on.1; number_is = its.1 };
+          record { place = at.0; channel = x.0; is_channel = x.1; member_is = its.0; attached = on.0; attached_is = on.1; number_is = its.1; port_is = on.2 ∙ live.port_is };
     }
 
 -- The links of a DIF that was made

@@ -18,6 +18,7 @@ use Rattle.rina_dif_law.specs.Sending.{home}
 use Rattle.rina_dif.specs.declared.dif.Dif.{Dif}
 use Rattle.rina_dif.specs.Holding.{AreHoused, HasQueues, HaveQueues, Holds, IsHoused}
 use Rattle.rina_dif.specs.Managing.{AreManagedBy}
+use Rattle.rina_dif.proofs.LinkEnds.{StayLive, set_stays}
 use Rattle.rina_dif.proofs.Managed.{managed_set}
 
 place_map : {X Y : Type 0} → (h : X → Y) (p : Y → Bool) (xs : List X) → position_or_len p (map h xs) ≡ position_or_len (λ x. p (h x)) xs
@@ -88,13 +89,15 @@ housed_set g ps at p p' housed is cap same =
     let old = housed at p is in
     set_cases (IsHoused g) ps at p' (record { cap = cap ∙ old.cap; links = have_queues g (process_of p) (process_of p') same old.links; queues = has_queues g (process_of p) (process_of p') same old.queues }) housed
 
--- what holds of the IPC processes of a DIF: they are housed, and are managed
+-- what holds of the IPC processes of a DIF: they are housed, and are managed, and the live links are those that they were
 pub record AreHome (d : Dif) (ps : List IpcProcess) : Type 0 where
   pub housed : AreHoused (config_of d.settings) ps
   pub managed : AreManagedBy d.laid.is_static d.settings.members d.laid.links d.clock ps d.managements
+  pub live : StayLive d.processes ps
 
 pub home_set : (d : Dif) (lines : List Direction) (below : Seen) (at : ℕ) (p p' : IpcProcess) (ps : List IpcProcess) → Holds d lines below → slice_get d.processes at ≡ Some p → queue_settings p' ≡ queue_settings p → IsSameHouse (process_of p) (process_of p') → ps ≡ slice_set d.processes at p' → AreHome d ps
 home_set d lines below at p p' ps h is room same new = record {
   housed = subst (AreHoused (config_of d.settings)) (sym new) (housed_set (config_of d.settings) d.processes at p p' h.housed is (ap (λ (s : QueueSettings). s.cap) room) same);
   managed = subst (λ (qs : List IpcProcess). AreManagedBy d.laid.is_static d.settings.members d.laid.links d.clock qs d.managements) (sym new) (managed_set d.laid.is_static d.settings.members d.laid.links d.clock d.processes d.managements at p p' is same.links same.routes h.managed);
+  live = subst (StayLive d.processes) (sym new) (set_stays d.processes at p p' is same.links);
 }

@@ -40,6 +40,7 @@ use Rattle.rina_dif.proofs.Leaves.{has_process, shown_at}
 use Rattle.rina_dif.proofs.Owning.{arrived_seen}
 use Rattle.rina_channel.proofs.Leaving.{ending_leaves, forgetting_leaves}
 use Rattle.rina_dif.proofs.Connected.{kept_by}
+use Rattle.rina_dif.proofs.LinkEnds.{live_floods}
 
 same_some : {X : Type 0} (o : Option X) (a b : X) → o ≡ Some a → o ≡ Some b → a ≡ b
 same_some o a b h g = cc
@@ -97,7 +98,7 @@ forgets d i at (Ok true) flows ps lt here does lines below h =
           managed = house.managed;
           enrolled = h.enrolled;
           connected = kept_by (config_of d.settings) d.clock d.connections (seen_of d).processes (seen_of d').processes below (λ may. forgetting_leaves (seen_of d) lines at (seen_of d') f.lines' forgotten) h.connected;
-          flooded = h.flooded;
+          flooded = λ alive. live_floods d ps house.live (h.flooded alive);
         };
       },
       x.1.0,
@@ -144,7 +145,7 @@ gives_up d i at (Ok (Some num)) flows ps lt here does rest held rests gave lines
         managed = house.managed;
         enrolled = h.enrolled;
         connected = kept_by (config_of d.settings) d.clock d.connections (seen_of d).processes (seen_of d').processes below (λ may. ending_leaves (seen_of d) lines at _ (seen_of d') ended) h.connected;
-        flooded = h.flooded;
+        flooded = λ alive. live_floods d ps house.live (h.flooded alive);
       };
     }
 gives_up d i at (Ok None) flows ps lt here does rest held rests gave lines below h =

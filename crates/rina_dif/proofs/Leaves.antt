@@ -45,6 +45,7 @@ use Rattle.rina_dif.proofs.Keeping.{IsSameHouse, home_set, house_is, same_house,
 use Rattle.rina_dif.proofs.Connected.{outs_connected}
 use Rattle.rina_channel.specs.Channels.{HasLive}
 use Rattle.rina_channel.proofs.Putting.{live_same}
+use Rattle.rina_dif.proofs.LinkEnds.{live_floods}
 
 same_some : {X : Type 0} (o : Option X) (a b : X) → o ≡ Some a → o ≡ Some b → a ≡ b
 same_some o a b h g = cc
@@ -144,7 +145,7 @@ leaves_hold refuses d below at n r ps below' kept kept' lt leaves lines h =
       managed = house.managed;
       enrolled = h.enrolled;
       connected = outs_connected refuses (seen_of d) lines d.connections below at n r (seen_of d') below' kept kept' h.standing outs (subst (λ (qs : List IpcProcess). (j k : ℕ) (port : Port) → HasLive (map process_of qs) j k port → HasLive (seen_of d).processes j k port) (sym l.3) (λ j k port live. live_same (seen_of d).processes at (process_of p.0) (process_of l.0) (shown_at d at p.0 p.1) (goes_same refuses (config_of d.settings) d.clock (process_of p.0) below n r (process_of l.0) below' l.1).links j k port (subst (λ (qs : List Process). HasLive qs j k port) (map-set process_of d.processes at l.0) live))) h.connected;
-      flooded = h.flooded;
+      flooded = λ alive. live_floods d ps house.live (h.flooded alive);
     }
 
 -- By node

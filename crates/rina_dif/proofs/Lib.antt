@@ -36,6 +36,7 @@ pub mod Laid
 pub mod Lapsed
 pub mod Lastly
 pub mod Leaves
+pub mod LinkEnds
 pub mod LinkFirst
 pub mod LinksLive
 pub mod LinkFlows

@@ -1,5 +1,5 @@
 -- The first item that is due at the management connections of an IPC process.
-use Rattle.std.proofs.Common.{◌≡◌, ◌∙◌, ℕ, suc, ◌+◌, ◌<◌, ◌≤◌, ◌⊎◌, ◌||◌, Bool, true, false, cond, leb, leb-true, leb-false, List, [], ◌∷◌, length, get_or, slice_get, slice_index_or, Option, Some, None, refl, sym, ap, subst, arith, inl, inr}
+use Rattle.std.proofs.Common.{◌≡◌, ◌∙◌, ℕ, ◌+◌, ◌<◌, ◌≤◌, ◌⊎◌, Bool, true, false, cond, leb, leb-true, leb-false, List, length, get_or, slice_get, slice_index_or, Option, Some, None, refl, sym, ap, subst, arith, inl, inr}
 use Rattle.std.proofs.lemmas.Bool.{cases_lt, false≢true}
 use Rattle.std.proofs.lemmas.List.{get_or_default}
 use Rattle.std.specs.List.{list_any}
@@ -27,6 +27,7 @@ use Rattle.rina_data.specs.declared.process.IpcProcess.{IpcProcess}
 use Rattle.rina_data.specs.Deciding.{process_of}
 use Rattle.rina_data.specs.Process.{Process}
 use Rattle.rina_dif.proofs.Leaves.{shown_at}
+use Rattle.rina_dif.proofs.LinkEnds.{is_its_link, is_link_by, link_among}
 use Rattle.rina_dif.specs.LinkDue.{is_link_of, FindsFirstLink, IsLinkDue, IsLinkTurn, NoLinkBefore, NoLinkDue, NoLinkUpTo, TellsLinkDue, lesser_link, rank_of}
 use Rattle.rina_dif.specs.Holding.{LinksStand}
 use Rattle.rina_dif.specs.Shown.{seen_of}
@@ -35,26 +36,6 @@ same_some : {X : Type 0} (o : Option X) (a b : X) → o ≡ Some a → o ≡ Som
 same_some o a b h g = cc
 
 -- Whether the item is due at one place
-
-is_its_link : (c : Attachment) (l : Link) → is_link_of c l ≡ true → (l.live ≡ true) × (l.number ≡ c.number) × (l.port ≡ c.port)
-unfolding is_link_of
-is_its_link c l h = grind arith
-
-is_link_by : (c : Attachment) (l : Link) → l.live ≡ true → l.number ≡ c.number → l.port ≡ c.port → is_link_of c l ≡ true
-unfolding is_link_of
-is_link_by c l live number port = grind arith
-
--- a link is found among those of an IPC process where one is live
-abbrev IsAmong : Attachment → List Link → Type 0
-IsAmong c links = (place : ℕ) × (l : Link) × (slice_get links place ≡ Some l) × (is_link_of c l ≡ true)
-
-among_one : (c : Attachment) (l : Link) (links : List Link) (b : Bool) → is_link_of c l ≡ b → (list_any (is_link_of c) links ≡ true → IsAmong c links) → (b || list_any (is_link_of c) links) ≡ true → IsAmong c (l ∷ links)
-among_one c l links true is rest any = (0, l, refl, is)
-among_one c l links false is rest any = (let r = rest any in (suc r.0, r.1, r.2, r.3))
-
-link_among : (c : Attachment) (links : List Link) → list_any (is_link_of c) links ≡ true → IsAmong c links
-link_among c [] h = absurd cc
-link_among c (l ∷ links) h = among_one c l links (is_link_of c l) refl (λ any. link_among c links any) h
 
 none_its : (c : Attachment) (links : List Link) (place : ℕ) (l : Link) → list_any (is_link_of c) links ≡ false → slice_get links place ≡ Some l → is_link_of c l ≡ true → ⊥
 none_its c links place l none at is = false≢true (sym none ∙ list_any_at (is_link_of c) links place l (slice_get_within links place l at) (ap (is_link_of c) (get_or_from_slice_get links place l l at) ∙ is))

@@ -61,7 +61,7 @@ use Rattle.rina_dif.specs.declared.dif.Dif.{Dif}
 use Rattle.rina_dif.specs.declared.send.FirstHop.{FirstHop}
 use Rattle.rina_dif.specs.Changing.{changed_at, changed_if}
 use Rattle.rina_dif.specs.Connected.{AreConnected, channels_seen}
-use Rattle.rina_dif.specs.Flooding.{AreFlooding, handled_at, link_end, members_seen, offered_at, state_by}
+use Rattle.rina_dif.specs.Flooding.{AreFlooding, handled_at, link_end, members_seen, offered_at}
 use Rattle.rina_dif.specs.Holding.{Holds, LinksStand}
 use Rattle.rina_dif.specs.LinkDue.{IsLinkEnd}
 use Rattle.rina_dif.specs.Managing.{AreManagedBy, IsManaged, agents_of}
@@ -79,6 +79,7 @@ use Rattle.rina_dif.proofs.LinksLive.{serving_lives}
 use Rattle.rina_member.proofs.TellsNear.{sends_near}
 use Rattle.rina_dif.proofs.Sent.{IsPut, is_put, pieces_count}
 use Rattle.rina_dif.proofs.Served.{put_lawful}
+use Rattle.rina_dif.proofs.LinkEnds.{StayLive, end_there, ends_stay, set_stays}
 
 same_some : {X : Type 0} (o : Option X) (a b : X) → o ≡ Some a → o ≡ Some b → a ≡ b
 same_some o a b h g = cc
@@ -138,7 +139,7 @@ waits_there : (number : ℕ) (w : Waiting) (m : LinkMessage) → waits_on number
 waits_there number w m passes is = (let link : w.link ≡ number = grind (arith, passes) in λ i. record { link = link i; message = is i })
 
 module _ (d : Dif) (i place number : ℕ) (sdu : List ℕ) (entry : Entry) (end : End) (flows : Flows) (ps : List IpcProcess) (here : IsLinkEnd d i place number) (first : IsFirstSdu d i number sdu) (tell : TellNeighbours d.managements) (early : d.clock ≤ 10000000)
-    (is_end : slice_get d.connections.flows.journal.ends place ≡ Some end) (bytes : entry.bytes ≡ sdu) (are : flows.journal.ends ≡ slice_set d.connections.flows.journal.ends place (end_with_sent end entry)) where
+    (is_end : slice_get d.connections.flows.journal.ends place ≡ Some end) (bytes : entry.bytes ≡ sdu) (stay : StayLive d.processes ps) (are : flows.journal.ends ≡ slice_set d.connections.flows.journal.ends place (end_with_sent end entry)) where
   abbrev g : Management
   g = first.management
 
@@ -163,9 +164,10 @@ module _ (d : Dif) (i place number : ℕ) (sdu : List ℕ) (entry : Entry) (end 
   offered_floods r =
       let side = side_at place in
       let its_end : LinkEnd = record { member = i; state = There number } in
-      let state : state_by here.channel.link ≡ There number = ap state_by here.live.link_is ∙ ap (λ (k : ℕ). There k) (sym here.number_is) in
-      let end_is : link_end here.channel ≡ its_end = (λ j. record { member = here.member j; state = state j }) in
-      let there : slice_get (map link_end d.connections.channels) (end_place side.0 side.1) ≡ Some its_end = ap (slice_get (map link_end d.connections.channels)) side.2 ∙ slice_get-map link_end d.connections.channels place ∙ ap (option_map link_end) here.stands ∙ ap (λ (e : LinkEnd). Some e) end_is in
+      let numbers = sym here.number_is in
+      let end_is : link_end d.processes here.channel ≡ its_end = end_there d.processes here.channel here.live ∙ (λ j. record { member = here.member j; state = There (numbers j) }) in
+      let ends : List LinkEnd = map (link_end d.processes) d.connections.channels in
+      let there : slice_get ends (end_place side.0 side.1) ≡ Some its_end = ap (slice_get ends) side.2 ∙ slice_get-map (link_end d.processes) d.connections.channels place ∙ ap (option_map (link_end d.processes)) here.stands ∙ ap (λ (e : LinkEnd). Some e) end_is in
       let agent : slice_get (agents_of d.managements) i ≡ Some g.agent = slice_get-map (λ (z : Management). z.agent) d.managements i ∙ ap (option_map (λ (z : Management). z.agent)) first.is_management in
       let f = found (waits_on number) g.agent.agenda first.waiting first.first in
       let m = to_neighbour first.waiting.message sdu ((tell i g first.is_management).near first.waiting f.0) first.is_sdu in
@@ -185,7 +187,7 @@ module _ (d : Dif) (i place number : ℕ) (sdu : List ℕ) (entry : Entry) (end 
         first = first.first ∙ ap (λ (w : Waiting). Some w) waiting_is;
         text = sdu;
         written = m.2;
-        stays = record { members = refl; ends = refl };
+        stays = record { members = refl; ends = ends_stay d.processes ps stay d.connections.channels };
         now = refl;
         agents = map-set (λ (z : Management). z.agent) d.managements i (with_sent g number);
         sent = texts;
@@ -308,7 +310,7 @@ module _ (d : Dif) (i place number : ℕ) (sdu : List ℕ) (conn : Conn) (made :
         managed = all_managed d.laid.is_static d.settings.members d.laid.links d.clock (slice_set d.processes i put_process) d.managements i number teller r.first.is_management s.managed;
         enrolled = enrolled_on d.laid.is_static d.settings.members d.settings.admits d.managements (slice_set d.managements i (with_sent teller number)) d.enrolled (states_set d.managements i teller (with_sent teller number) r.first.is_management refl) h.enrolled;
         connected = s.connected;
-        flooded = λ alive. offered_floods d i place number sdu (offered_entry (constants (manage_config d) o'.offers.cube o'.offers.its_ids) o'.parts o'.offers.line) o'.offers.end flows (slice_set d.processes i put_process) r.here r.first tell early o'.offers.place.is_conn.end o'.cut.1 o'.offers.offered.3 (h.flooded alive);
+        flooded = λ alive. offered_floods d i place number sdu (offered_entry (constants (manage_config d) o'.offers.cube o'.offers.its_ids) o'.parts o'.offers.line) o'.offers.end flows (slice_set d.processes i put_process) r.here r.first tell early o'.offers.place.is_conn.end o'.cut.1 (set_stays d.processes i r.process put_process r.is_process house.links) o'.offers.offered.3 (h.flooded alive);
       }
 
   -- what was done, where the flow below the link is allocated

@@ -66,6 +66,7 @@ use Rattle.rina_dif.proofs.Linked.{passes_some}
 use Rattle.rina_dif.proofs.Owning.{OfReceiver, noted_err, of_verdict}
 use Rattle.rina_dif.proofs.Settling.{off_house}
 use Rattle.rina_dif.proofs.Flooding.{said_floods, taken_said}
+use Rattle.rina_dif.proofs.LinkEnds.{live_floods}
 
 same_some : {X : Type 0} (o : Option X) (a b : X) → o ≡ Some a → o ≡ Some b → a ≡ b
 same_some o a b h g = cc
@@ -226,7 +227,7 @@ module _ (d : Dif) (at since : ℕ) (port : Port) (hop : Hop) (lines : List Dire
           each = λ i n q live. h.connected.each i n q (leaves.live i n q live);
         };
         channels = inr (record { for_link = link; dropped = dropped; takes = takes });
-        flooded = λ floods alive. said_floods d flows (taken_said m links (seen_of d).processes below h.connected.standing port hop.pdu dropped (after flows) links' end takes) (floods alive);
+        flooded = λ floods alive. live_floods (record d { connections = record d.connections { flows = flows } }) ps house.live (said_floods d flows (taken_said m links (seen_of d).processes below h.connected.standing port hop.pdu dropped (after flows) links' end takes) (floods alive));
       }
 
   -- no end takes it

@@ -50,6 +50,7 @@ use Rattle.rina_channel.specs.Changes.{LeavesLinks}
 use Rattle.rina_channel.proofs.Putting.{leaves_same}
 use Rattle.rina_dif.specs.Connected.{AreConnected}
 use Rattle.rina_dif.proofs.Connected.{kept_by, noted_leaves}
+use Rattle.rina_dif.proofs.LinkEnds.{live_floods}
 
 same_some : {X : Type 0} (o : Option X) (a b : X) → o ≡ Some a → o ≡ Some b → a ≡ b
 same_some o a b h g = cc
@@ -92,7 +93,7 @@ own_none d at since hop ps lt own none notes lines below h there =
       managed = house.managed;
       enrolled = h.enrolled;
       connected = λ down. kept_by (config_of d.settings) d.clock d.connections (seen_of d).processes (map process_of ps) down (λ may. subst (λ (z : DifSeen). LeavesLinks (seen_of d).processes z.processes) (sym (stepped d at x.0 ps x.3)) (noted_leaves (seen_of d).processes at (process_of p.0) hop (causes.NoConnection hop.pdu.dcep) (process_of x.0) (shown_at d at p.0 p.1) x.1));
-      flooded = λ f. f;
+      flooded = λ f alive. live_floods d ps house.live (f alive);
     }
 
 -- without memory for its line nothing changes
@@ -236,7 +237,7 @@ own_arrived d at since hop place cause flows ps lt own kind taken arrives lines 
       managed = house.managed;
       enrolled = h.enrolled;
       connected = λ down. kept_by (config_of d.settings) d.clock d.connections (seen_of d).processes (map process_of ps) down (λ may. subst (λ (z : DifSeen). LeavesLinks (seen_of d).processes z.processes) (sym (stepped d at (record p.0 { ledger = x.0 }) ps x.2)) (leaves_same (seen_of d).processes at (process_of p.0) (process_of (record p.0 { ledger = x.0 })) (shown_at d at p.0 p.1) refl refl));
-      flooded = λ f. f;
+      flooded = λ f alive. live_floods d ps house.live (f alive);
     }
 
 pub arrived_err : (d : Dif) (at since : ℕ) (hop : Hop) (place : ℕ) (e : NoMemory) (flows : Flows) (ps : List IpcProcess) → at < length d.settings.members → ArrivesTo d.clock place hop.pdu at d.flows d.processes (Err e) flows ps → SettlesFor d at since hop (Err e) (record d { flows = flows; processes = ps })
@@ -282,7 +283,7 @@ settles_on d at since hop ps (Ok end) d' me settles lines below h there =
       managed = s.managed;
       enrolled = s.enrolled;
       connected = λ down c. s.connected down (subst (λ (z : DifSeen). AreConnected (config_of d.settings) d.clock d.connections z.processes down) (sym me.same) c);
-      flooded = s.flooded;
+      flooded = λ f. s.flooded (λ alive. live_floods d ps (me.house lines below h).live (f alive));
     }
 settles_on d at since hop ps (Err e) d' me settles lines below h there =
     let s = settles lines below (holds_unseen d ps lines below me.same (me.house lines below h) h) (subst (λ (z : DifSeen). IsThere z below since hop) (sym me.same) there) in

@@ -56,6 +56,7 @@ use Rattle.rina_dif.proofs.Putting.{is_there}
 use Rattle.rina_dif.proofs.Settling.{holds_unseen, off_house, unseen}
 use Rattle.rina_channel.proofs.Leaving.{acknowledging_leaves, resending_leaves}
 use Rattle.rina_dif.proofs.Connected.{kept_by}
+use Rattle.rina_dif.proofs.LinkEnds.{live_floods}
 
 same_some : {X : Type 0} (o : Option X) (a b : X) → o ≡ Some a → o ≡ Some b → a ≡ b
 same_some o a b h g = cc
@@ -219,7 +220,7 @@ acknowledges d lines below i at conn due s flows ps lt here is tells forwards do
         managed = p.house.managed;
         enrolled = h.enrolled;
         connected = kept_by (config_of d.settings) d.clock d.connections (seen_of d).processes (seen_of d').processes below (λ may. acknowledging_leaves (seen_of d) lines at p.cause (seen_of d') a.lines' may.managed.only acknowledged) h.connected;
-        flooded = h.flooded;
+        flooded = λ alive. live_floods d ps p.house.live (h.flooded alive);
       };
     }
 
@@ -295,7 +296,7 @@ sends_again d lines below i at conn pdu s flows ps lt here is tells forwards doe
         managed = p.house.managed;
         enrolled = h.enrolled;
         connected = kept_by (config_of d.settings) d.clock d.connections (seen_of d).processes (seen_of d').processes below (λ may. resending_leaves (seen_of d) lines at p.cause (seen_of d') a.lines' may.managed.only resent) h.connected;
-        flooded = h.flooded;
+        flooded = λ alive. live_floods d ps p.house.live (h.flooded alive);
       };
     }
 

@@ -53,6 +53,7 @@ use Rattle.rina_dif.proofs.Putting.{waiting_there}
 use Rattle.rina_dif.proofs.Ways.{by_queue}
 use Rattle.rina_channel.proofs.Leaving.{sends_leave}
 use Rattle.rina_dif.proofs.Connected.{kept_by}
+use Rattle.rina_dif.proofs.LinkEnds.{live_floods}
 
 -- A refusal
 
@@ -292,7 +293,7 @@ sends_made d at sdu way made flows ps a offers puts lines below h =
         managed = kept.managed;
         enrolled = h.enrolled;
         connected = kept_by (config_of d.settings) d.clock d.connections (seen_of d).processes (seen_of d').processes below (λ may. sends_leave (seen_of d) lines at o.parts (Ok made.num) (seen_of d') o.lines' may.managed.only offer) h.connected;
-        flooded = h.flooded;
+        flooded = λ alive. live_floods d ps kept.live (h.flooded alive);
       };
     }
 

@@ -42,6 +42,7 @@ use Rattle.rina_channel.specs.Changes.{LeavesLinks}
 use Rattle.rina_channel.specs.Ledgers.{unnamed_from}
 use Rattle.rina_dif.specs.Connected.{AreConnected}
 use Rattle.rina_dif.proofs.Connected.{decides_leave, kept_by, no_hop}
+use Rattle.rina_dif.proofs.LinkEnds.{live_floods}
 
 same_some : {X : Type 0} (o : Option X) (a b : X) → o ≡ Some a → o ≡ Some b → a ≡ b
 same_some o a b h g = cc
@@ -127,7 +128,7 @@ holds_unseen d ps lines below same house h = record {
   managed = house.managed;
   enrolled = h.enrolled;
   connected = subst (λ (z : DifSeen). AreConnected (config_of d.settings) d.clock d.connections z.processes below) (sym same) h.connected;
-  flooded = h.flooded;
+  flooded = λ alive. live_floods d ps house.live (h.flooded alive);
 }
 
 pub unseen : (d : Dif) (at : ℕ) (p p' : IpcProcess) (ps : List IpcProcess) → slice_get d.processes at ≡ Some p → process_of p' ≡ process_of p → ps ≡ slice_set d.processes at p' → seen_of (record d { processes = ps }) ≡ seen_of d
@@ -172,7 +173,7 @@ decided d addr at since hop s end ps lt is_addr settles decides lines below h th
       managed = house.managed;
       enrolled = h.enrolled;
       connected = λ down. kept_by (config_of d.settings) d.clock d.connections (seen_of d).processes (map process_of ps) down (λ may. subst (λ (z : DifSeen). LeavesLinks (seen_of d).processes z.processes) (sym (stepped d at x.0 ps x.3)) (decides_leave p.0.queues.cap d.clock addr (seen_of d).processes at (process_of p.0) since hop (Ok s) (process_of x.0) (shown_at d at p.0 p.1) (no_hop (config_of d.settings) d.laid.is_static d.settings.members d.laid.links d.clock d.processes d.managements at p.0 refl h.standing.aligned may.zero h.managed p.1) x.1));
-      flooded = λ f. f;
+      flooded = λ f alive. live_floods d ps house.live (f alive);
     }
 
 pub decided_relayed : (d : Dif) (addr at since : ℕ) (hop : Hop) (ps : List IpcProcess) → at < length d.settings.members → (IsForLink d since hop → ⊥) → ((member : Member) → slice_get (seen_of d).config.members at ≡ Some member → addr ≡ member.addr) → DecidesAt d.clock addr since hop (Ok decision.Relayed) at d.processes ps → SettlesFor d at since hop (Ok took.Relayed) (record d { processes = ps })

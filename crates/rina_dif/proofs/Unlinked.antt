@@ -151,7 +151,7 @@ link_lost d lines below at lost routes member p p' g g' is_member is is_g goes a
         managed = managed_lost d.laid.is_static members plans d.clock d.processes d.managements at member p p' g g' lost.place link routes h.managed is_member is is_g there f.1.lost.live loss (ap (λ (z : Process). z.links) new) (ap (λ (z : Process). z.routes) new);
         enrolled = same_enrolled d at g g' h.enrolled is_g (lost_in d.clock lost.number g.agent g'.agent goes) (loses_enrolled d.clock lost.number g.agent g'.agent goes);
         connected = kept_by (config_of d.settings) d.clock d.connections (seen_of d).processes d'.processes below (λ may. losing_leaves (seen_of d) below at lost.number routes d' gone) h.connected;
-        flooded = λ alive. lost_floods d at lost.number member p g g' lost.place link h.managed h.connected.each is_member is is_g there f.1.lost.live (sym f.2) goes (h.flooded alive);
+        flooded = λ alive. lost_floods d below at lost.number member p p' g g' link h.connected is_member is_g (record { is = is; place = lost.place; stands = there; live = f.1.lost.live; numbers = (h.managed.each at member p g is_member is is_g).knows.apart; links_are = ap (λ (z : Process). z.links) new }) (sym f.2) goes (h.flooded alive);
       };
     }
 

@@ -26,8 +26,8 @@ pub record CanManage (g : Config) (manage : Cube) : Type 0 where
   pub managed : IsManaged g manage
   pub zero : HasNoZero g
 
--- the link of this number of the IPC process of place i has its channel, which is attached to it
-pub record HasConnection (channels : List Channel) (i number : ℕ) : Type 0 where
+-- the link of this number of the IPC process of place i, with this port, has its channel, which is attached to it
+pub record HasConnection (channels : List Channel) (i number : ℕ) (port : Port) : Type 0 where
   pub place : ℕ
   pub channel : Channel
   pub is_channel : slice_get channels place ≡ Some channel
@@ -35,10 +35,11 @@ pub record HasConnection (channels : List Channel) (i number : ℕ) : Type 0 whe
   pub attached : Attachment
   pub attached_is : channel.link ≡ Some attached
   pub number_is : attached.number ≡ number
+  pub port_is : attached.port ≡ port
 
 -- so has each live link
 abbrev pub LinksAreConnected : List Channel → List Process → Type 0
-LinksAreConnected channels processes = (i number : ℕ) (port : Port) → HasLive processes i number port → HasConnection channels i number
+LinksAreConnected channels processes = (i number : ℕ) (port : Port) → HasLive processes i number port → HasConnection channels i number port
 
 -- the two ends of a link have their channels one after the other, from an even place on
 abbrev pub ArePaired : List Channel → Type 0

@@ -25,14 +25,14 @@ use Rattle.rina_agent.specs.Rows.{denial, dropped, either, entered, handled, int
 use Rattle.rina_flood.specs.Network.{Side, other, EndState, Unmade, There, Gone, Network, is_up, link_at, with_message, put_agent, put_sent, put_state, put_ends, with_state, AreApart, Row, Make, Put, Take, Handle, Lose, Leave, Drop, Enrol, Claim, Know, Pass, happens, May, IsRun, after_rows}
 use Rattle.rina_flood.proofs.Agendas.{lost_fewer}
 use Rattle.rina_flood.proofs.All.{row_holds}
-use Rattle.rina_flood.proofs.Calls.{at_itself, at_place, at_state}
+use Rattle.rina_flood.proofs.Calls.{at_place, at_state}
 use Rattle.rina_flood.proofs.Enrolling.{IsQuiet, allow_by, connect_by, deny_by, note_by}
 use Rattle.rina_flood.proofs.Heard.{IsHeard, found_number, is_heard, placed, set_up}
 use Rattle.rina_flood.proofs.Holds.{Holds}
 use Rattle.rina_flood.proofs.Known.{same_up}
 use Rattle.rina_flood.proofs.NewLinks.{up_more}
 use Rattle.rina_flood.proofs.Places.{nothing_in, in_first, direction_case, other_back, put_case}
-use Rattle.rina_flood.proofs.States.{lost_up, made_up, new_down, other_link, put_other, by_link}
+use Rattle.rina_flood.proofs.States.{lost_up, made_up, new_down, other_link, by_link}
 
 -- Which links are up after a message: those that were, and that on which it came
 
@@ -186,10 +186,10 @@ handled_down n link side number m rest h there first a l d e (There j) is u =
     (λ apart v. v) u
 
 -- an end that is not made was not before
-gone_unmade : (n : Network) (link : ℕ) (side : Side) (l : ℕ) (d : Side) → put_state link side Gone n.states l d ≡ Unmade → n.states l d ≡ Unmade
+pub gone_unmade : (n : Network) (link : ℕ) (side : Side) (l : ℕ) (d : Side) → put_state link side Gone n.states l d ≡ Unmade → n.states l d ≡ Unmade
 gone_unmade n link side l d = direction_case (λ (s : EndState). s ≡ Unmade → n.states l d ≡ Unmade) link side l d Gone (n.states l d) (λ a b e. absurd (cc)) (λ apart e. e)
 
-was_unmade : (n : Network) (link : ℕ) (side : Side) (k : ℕ) (l : ℕ) (d : Side) → put_state link side (There k) n.states l d ≡ Unmade → n.states l d ≡ Unmade
+pub was_unmade : (n : Network) (link : ℕ) (side : Side) (k : ℕ) (l : ℕ) (d : Side) → put_state link side (There k) n.states l d ≡ Unmade → n.states l d ≡ Unmade
 was_unmade n link side k l d = direction_case (λ (s : EndState). s ≡ Unmade → n.states l d ≡ Unmade) link side l d (There k) (n.states l d) (λ a b e. absurd (cc)) (λ apart e. e)
 
 enrolled_ahead : (n : Network) (link : ℕ) (side : Side) (k i j : ℕ) (member node : List ℕ) → May n (Enrol link side k i j member node) → IsAhead n → IsAhead (happens n (Enrol link side k i j member node))

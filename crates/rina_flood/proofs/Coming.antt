@@ -1,5 +1,5 @@
 -- What comes over a link of a DIF was made by its members.
-use Rattle.std.proofs.Common.{◌≡◌, ℕ, ◌⊎◌, suc, Bool, true, false, Contains, inl, inr, List, [], ◌∷◌, Some, drop, length, slice_get, refl, sym, ◌∙◌, ap, subst}
+use Rattle.std.proofs.Common.{◌≡◌, ℕ, ◌<◌, ◌⊎◌, suc, Bool, true, false, Contains, inl, inr, List, [], ◌∷◌, Some, drop, length, refl, sym, ◌∙◌, ap, subst}
 use Rattle.std.proofs.lemmas.Bool.{both_ways}
 use Rattle.rina_enrol.specs.declared.message.LinkMessage.{LinkMessage}
 use Rattle.rina_enrol.specs.declared.message.LinkMessage.TheVariants as messages
@@ -19,8 +19,8 @@ use Rattle.rina_member.proofs.Laying.{small_address}
 use Rattle.rina_member.proofs.Lists.{is_there}
 use Rattle.rina_flood.specs.Coming.{WhatComes}
 use Rattle.rina_flood.specs.Laws.{TellsLinks, TellsNone}
-use Rattle.rina_flood.specs.Members.{AreTexts, IsRunOf, MembersSeen}
-use Rattle.rina_flood.specs.Network.{Side, carried, other}
+use Rattle.rina_flood.specs.Members.{AreTexts, IsRunOf, MembersSeen, first_links}
+use Rattle.rina_flood.specs.Network.{carried, other}
 use Rattle.rina_flood.specs.Static.{end_place}
 use Rattle.rina_flood.proofs.All.{begin_holds}
 use Rattle.rina_flood.proofs.Entries.{rows_leave}
@@ -86,7 +86,10 @@ what_comes greatest is_static plans s l d end agent message r h =
       own = λ x is_x key.
           (let made = telling.holds.noted.sent l d x (first_item n l d (ToNeighbour message) rest is x (one_carried message x is_x) telling.holds) in
           ap (λ (a : Agent). is_newer x.version (kept_at a.items x.key)) (sym at.4) ∙ own_known at.0.addr (n.agents at.0.addr) n.made x made (key ∙ ap link_key address) telling.told);
-      brings = λ still.
-          (let plain = rows_plain r.start r.rows (begin_holds r.start told r.starts) (start_plain r.start told r.starts) r.run (r.static still) in
-          brought message (first_plain n l d (ToNeighbour message) rest plain is));
+      brings = λ still lt.
+          (let plain = rows_plain r.start r.rows (length plans) (begin_holds r.start told r.starts) (record {
+            made = λ k e within. (r.linked k e).0 (subst (λ (b : Bool). k < first_links b plans) (sym still) within);
+            plain = λ k e within. start_plain r.start told r.starts k e;
+          }) r.run in
+          brought message (first_plain n l d (ToNeighbour message) rest (plain.plain l d lt) is));
     }

@@ -5,9 +5,7 @@ use Rattle.std.proofs.lemmas.List.Elements.{Contains-append_left, Contains-appen
 use Rattle.rina_enrol.specs.declared.event.EnrolDo.{EnrolDo}
 use Rattle.rina_enrol.specs.declared.event.EnrolDo.TheVariants as does
 use Rattle.rina_enrol.specs.declared.event.EnrolEvent.{EnrolEvent}
-use Rattle.rina_enrol.specs.declared.event.EnrolEvent.TheVariants as events
 use Rattle.rina_enrol.specs.declared.message.LinkMessage.{LinkMessage}
-use Rattle.rina_enrol.specs.declared.message.LinkMessage.TheVariants as messages
 use Rattle.rina_agent.specs.declared.agent.Agent.{Agent}
 use Rattle.rina_agent.specs.declared.link.Link.{Link}
 use Rattle.rina_agent.specs.declared.message.ManagementMessage.{ManagementMessage}
@@ -25,7 +23,6 @@ use Rattle.rina_flood.proofs.Calls.{AreFewer, at_place}
 use Rattle.rina_flood.proofs.Heard.{IsHeard, heard_text, is_heard, placed, found_number, set_fewer}
 use Rattle.rina_flood.proofs.Holds.{Holds}
 use Rattle.rina_flood.proofs.Messages.{from_at, old_at, front_at}
-use Rattle.rina_flood.proofs.Places.{nothing_in}
 use Rattle.rina_flood.proofs.Runs.{none_waits, IsSame, the_same, put_same, IsMoving, moving_holds, quiet_holds}
 
 -- An agent keeps the same items, its link state would say the same, and new messages carry no item

@@ -1,5 +1,5 @@
 -- START and STOP: a link comes up, and its member makes its link state.
-use Rattle.std.proofs.Common.{◌≡◌, ℕ, ◌<◌, ◌^◌, ◌⊎◌, true, ◌==◌, List, [], ◌∷◌, ◌++◌, map, Contains, slice_set, Option, Some, None, Result, refl, sym, ◌∙◌, ap, subst, inl, inr, arith}
+use Rattle.std.proofs.Common.{◌≡◌, ℕ, ◌<◌, ◌^◌, ◌⊎◌, true, ◌==◌, List, [], ◌∷◌, ◌++◌, map, Contains, slice_set, Option, Some, None, Result, refl, sym, ◌∙◌, ap, subst, inl, inr}
 use Rattle.std.specs.Prelude.{find, is_some}
 use Rattle.std.proofs.lemmas.Bool.{cases_Bool, both_ways, eqb-true, eq-eqb}
 use Rattle.rina_enrol.specs.declared.event.EnrolDo.{EnrolDo}

@@ -24,7 +24,7 @@ use Rattle.rina_member.specs.Knowing.{IsEntryKey}
 use Rattle.rina_member.specs.Managements.{entry_of}
 use Rattle.rina_member.specs.Start.{first_version, start_items}
 use Rattle.rina_member.proofs.Items.{entry_not_link}
-use Rattle.rina_flood.specs.Network.{Side, other, Network, item_in, last_state, put_sent, Row, Make, Put, Take, Handle, Lose, Leave, Drop, Know, Pass, Enrol, Claim, happens, May, IsRun, after_rows, IsStart}
+use Rattle.rina_flood.specs.Network.{Side, other, Network, item_in, last_state, put_sent, Row, Make, Put, Take, Handle, Lose, Leave, Drop, Know, Pass, Enrol, Claim, happens, IsRun, after_rows, IsStart}
 use Rattle.rina_flood.specs.Laws.{LeavesLinkState, AllLeaveLinkState}
 use Rattle.rina_flood.specs.Static.{IsFirstEntry, IsOfDif, AreOfDif}
 use Rattle.rina_flood.proofs.All.{near_keeps, row_holds, begin_holds}

@@ -32,9 +32,9 @@ pub record IsFlooded (n : Network) : Type 0 where
   pub kept : (l : ℕ) (d : Side) (x : Item) → Contains (on_way n l d) x → IsAtLeast (n.agents (n.ends l d)).items x
   pub owes : (l : ℕ) (d : Side) → stands n l d ≡ true → Owes n l d
 
--- no message of an enrolment waits or is on its way
-abbrev pub ArePlain : Network → Type 0
-ArePlain n = (l : ℕ) (d : Side) (m : ManagementMessage) → Contains (unhandled n l d) m → is_plain m ≡ true
+-- no message of an enrolment waits or is on its way in a direction
+abbrev pub IsPlain : Network → ℕ → Side → Type 0
+IsPlain n l d = (m : ManagementMessage) → Contains (unhandled n l d) m → is_plain m ≡ true
 
 -- the journals
 pub record IsNoted (n : Network) : Type 0 where

@@ -1,5 +1,5 @@
 -- What is kept in all that an enrolment does to a network.
-use Rattle.std.proofs.Common.{◌≡◌, ℕ, ◌<◌, ◌^◌, true, ◌==◌, List, [], ◌∷◌, ◌++◌, Some, None, refl, sym, subst, inl, inr, arith}
+use Rattle.std.proofs.Common.{◌≡◌, ℕ, ◌<◌, ◌^◌, ◌==◌, List, [], ◌∷◌, ◌++◌, Some, None, refl, sym, subst, inl, inr, arith}
 use Rattle.std.proofs.lemmas.Bool.{cases_Bool, eqb-true, eq-eqb}
 use Rattle.rina_newest.specs.declared.item.Item.{Item}
 use Rattle.rina_agent.specs.declared.agent.Agent.{Agent}

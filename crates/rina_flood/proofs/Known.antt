@@ -16,7 +16,7 @@ use Rattle.rina_flood.specs.Network.{Side, other, Network, link_at, waiting_at, 
 use Rattle.rina_flood.specs.Laws.{Owes}
 use Rattle.rina_flood.proofs.Calls.{taken_last}
 use Rattle.rina_flood.proofs.Flow.{kept_was}
-use Rattle.rina_flood.proofs.Holds.{ArePlain, IsNoted, Holds}
+use Rattle.rina_flood.proofs.Holds.{IsPlain, IsNoted, Holds}
 
 -- What stays at a member, whether it takes the item or not
 
@@ -153,5 +153,5 @@ module _ (n : Network) (x : Item) where
         noted = record { knows = noted.knows; offered = noted.offered; sent = noted.sent; one = noted.one; past = noted.past; counted = noted.counted };
       }
 
-  pub know_plain : ArePlain n → ArePlain (known n x)
-  know_plain p l d m e = (let P : List ManagementMessage → Type 0 = λ ms. Contains ms m in p l d m (subst P (same_unhandled l d) e))
+  pub know_plain : (l : ℕ) (d : Side) → IsPlain n l d → IsPlain (known n x) l d
+  know_plain l d p m e = (let P : List ManagementMessage → Type 0 = λ ms. Contains ms m in p m (subst P (same_unhandled l d) e))

@@ -1,3 +1,4 @@
+pub mod Adding
 pub mod Agendas
 pub mod Ahead
 pub mod All

@@ -1,7 +1,7 @@
 -- The members of a DIF are a network after a run.
-use Rattle.std.proofs.Common.{◌≡◌, ℕ, zero, suc, ◌+◌, ◌≤◌, ◌⊎◌, Bool, true, false, ◌==◌, cond, List, ◌∷◌, ◌++◌, Option, Some, None, Ok, Result, drop, length, map, slice_get, slice_set, refl, sym, ◌∙◌, ap, subst, inl, inr, arith, [], Contains, ◌-◌, ◌^◌, ◌<◌}
+use Rattle.std.proofs.Common.{◌≡◌, ℕ, zero, suc, ◌+◌, ◌≤◌, ◌⊎◌, Bool, true, false, ◌==◌, cond, List, ◌∷◌, ◌++◌, Option, Some, None, Ok, Result, drop, length, map, slice_get, slice_set, refl, sym, ◌∙◌, ap, subst, inl, inr, arith, [], Contains, ◌-◌, ◌^◌, ◌<◌, ◌*◌}
 use Rattle.std.specs.Prelude.{find, is_some, option_map, option_and_then}
-use Rattle.std.proofs.lemmas.Bool.{and_parts, both_ways, cases_Bool, eq-eqb, eqb-true}
+use Rattle.std.proofs.lemmas.Bool.{and_parts, both_ways, cases_Bool, cases_lt, eq-eqb, eqb-true}
 use Rattle.std.proofs.lemmas.List.{drop-append-le, length-map, length-set, length_push}
 use Rattle.std.proofs.lemmas.List.Elements.{Contains-append_right, Contains-push_cases}
 use Rattle.std.proofs.lemmas.Option.{none-some, same_Some, slice_get-map, slice_get_within}
@@ -30,13 +30,13 @@ use Rattle.rina_data.specs.declared.settings.Member.{Member}
 use Rattle.rina_data.proofs.Finding.{there}
 use Rattle.rina_member.specs.Knowing.{IsLaidOut}
 use Rattle.rina_member.specs.Managements.{entry_of, takes_item}
-use Rattle.rina_member.specs.Start.{start_items}
+use Rattle.rina_member.specs.Start.{HasLinksIfStatic, start_items}
 use Rattle.rina_member.proofs.Laying.{small_address}
 use Rattle.rina_member.proofs.Lists.{is_there}
-use Rattle.rina_flood.specs.Network.{Side, Near, Far, other, EndState, Unmade, There, Gone, Network, AreApart, IsFree, IsNewNumber, Row, Make, Take, Handle, Lose, Leave, Enrol, Claim, Know, Pass, happens, is_up, laid, link_at, put_ends, put_state, unhandled, waiting_at, with_state, put_agent, put_sent, is_enrolled, is_in, known, with_item, MayBeKnown, MayLose, May, IsRun, after_rows, IsStart, has_link}
+use Rattle.rina_flood.specs.Network.{Side, Near, Far, other, EndState, Unmade, There, Gone, Network, AreApart, IsFree, IsNewNumber, Row, Make, Take, Handle, Lose, Leave, Enrol, Claim, Know, Pass, happens, laid, link_at, put_ends, put_state, unhandled, waiting_at, with_state, put_agent, put_sent, is_enrolled, is_in, known, with_item, MayBeKnown, MayLose, May, IsRun, after_rows, IsStart, has_link}
 use Rattle.rina_flood.specs.Static.{LinkEnd, IsOfDif, AreOfDif, agent_at, end_address, end_state, end_place, AreFirst, first_network, or_nobody, place_at}
-use Rattle.rina_flood.specs.Laws.{IsStatic, MakesNoLink, TellsLinks, TellsNone}
-use Rattle.rina_flood.specs.Members.{Adds, AreSame, AreShortTexts, AreTexts, ClaimsLink, IsAgentAt, IsUnused, JoinsLink, HasNoMember, HandlesMessage, IsNetworkOf, IsRunOf, IsShortText, IsText, LosesLinkAt, MakesEntryAt, MembersSeen, OffersMessage, StartsWith, TakesEntry, GoesOn}
+use Rattle.rina_flood.specs.Laws.{TellsLinks, TellsNone}
+use Rattle.rina_flood.specs.Members.{Adds, AreSame, AreShortTexts, AreTexts, ClaimsLink, IsAgentAt, IsUnused, JoinsLink, HasFirstLinks, HasNoMember, HandlesMessage, IsNetworkOf, IsRunOf, IsShortText, IsText, LosesLinkAt, MakesEntryAt, MembersSeen, OffersMessage, StartsWith, TakesEntry, GoesOn, first_links}
 use Rattle.rina_flood.proofs.Ranges.{message_fits}
 use Rattle.rina_flood.proofs.Ahead.{IsAhead, rows_ahead}
 use Rattle.rina_flood.proofs.All.{begin_holds, run_holds}
@@ -64,10 +64,6 @@ after_more n (first ∷ rows) row = after_more (happens n first) rows row
 of_more : (rows : List Row) (row : Row) → AreOfDif rows → IsOfDif row → AreOfDif (rows ++ row ∷ [])
 of_more [] row are is = (is, tt)
 of_more (first ∷ rows) row are is = (are.0, of_more rows row are.1 is)
-
-static_more : (rows : List Row) (row : Row) → IsStatic rows → MakesNoLink row → IsStatic (rows ++ row ∷ [])
-static_more [] row are is = (is, tt)
-static_more (first ∷ rows) row are is = (are.0, static_more rows row are.1 is)
 
 -- Texts
 
@@ -107,8 +103,8 @@ module _ (is_static : Bool) (plans : List LinkPlan) (s : MembersSeen) (r : IsRun
   abbrev pub net : Network
   net = after_rows r.start r.rows
 
-  more_rows : (s' : MembersSeen) (row : Row) → s'.members ≡ s.members → AreShortTexts s'.sent → May net row → IsOfDif row → (is_static ≡ true → MakesNoLink row) → IsNetworkOf s' (happens net row) → IsRunOf is_static plans s'
-  more_rows s' row same short may of no_link is =
+  more_rows : (s' : MembersSeen) (row : Row) → s'.members ≡ s.members → AreShortTexts s'.sent → May net row → IsOfDif row → IsNetworkOf s' (happens net row) → IsRunOf is_static plans s'
+  more_rows s' row same short may of is =
       let P : List Member → Type 0 = λ ms. IsLaidOut ms plans in
       let Q : List Member → Type 0 = λ ms. IsStart r.start (start_items is_static ms plans) in
       let R : Network → Type 0 = λ n. IsNetworkOf s' n in
@@ -120,11 +116,10 @@ module _ (is_static : Bool) (plans : List LinkPlan) (s : MembersSeen) (r : IsRun
         starts = subst Q (sym same) r.starts;
         fresh = r.fresh;
         tells = λ still m among. r.tells still m (subst (T m) same among);
-        free = r.free;
+        linked = r.linked;
         tells_none = λ dynamic m among. r.tells_none dynamic m (subst (T m) same among);
         run = run_more r.start r.rows row r.run may;
         of = of_more r.rows row r.of of;
-        static = λ still. static_more r.rows row (r.static still) (no_link still);
         is = subst R (sym (after_more r.start r.rows row)) is;
         short = short;
       }
@@ -177,11 +172,10 @@ same_texts is_static plans s sent got r same_sent same_got = record {
   starts = r.starts;
   fresh = r.fresh;
   tells = r.tells;
-  free = r.free;
+  linked = r.linked;
   tells_none = r.tells_none;
   run = r.run;
   of = r.of;
-  static = r.static;
   is = record {
     now = r.is.now;
     aligned = r.is.aligned;
@@ -272,7 +266,7 @@ module _ (s : MembersSeen) (n : Network) (l : ℕ) (d : Side) (end : LinkEnd) (s
 -- The clock goes on
 
 one_tick : (is_static : Bool) (plans : List LinkPlan) (s : MembersSeen) → IsRunOf is_static plans s → IsRunOf is_static plans (record s { now = s.now + 1 })
-one_tick is_static plans s r = more_rows is_static plans s r (record s { now = s.now + 1 }) Pass refl r.short tt tt (λ still. tt) (record {
+one_tick is_static plans s r = more_rows is_static plans s r (record s { now = s.now + 1 }) Pass refl r.short tt tt (record {
   now = ap (λ (t : ℕ). t + 1) r.is.now;
   aligned = r.is.aligned;
   agents = r.is.agents;
@@ -317,7 +311,7 @@ module _ (is_static : Bool) (plans : List LinkPlan) (old : MembersSeen) (r : IsR
       let event : Loses n.now number ≡ Loses old.now number = ap (λ (t : ℕ). Loses t number) r.is.now in
       let may : MayLose (n.agents (n.ends l d)) number = subst (λ (i : ℕ). MayLose (n.agents i) number) (sym at.2) (subst (λ (c : Agent). MayLose c number) (sym at.4) may_lose) in
       let are = called_at n.agents (n.ends l d) at.0.addr agent after (Loses n.now number) (Loses old.now number) at.2 at.4 event (ap (λ o. done agent o) loses) in
-      more_rows is_static plans old r lost_seen (Lose l d number) refl r.short (at.3 ∙ has, may) tt (λ still. tt)
+      more_rows is_static plans old r lost_seen (Lose l d number) refl r.short (at.3 ∙ has, may) tt
       (changed is_static plans old r end.member at.0 agent after at.1 is_at.is_agent _ n.sent _ _ old.sent old.got are r.is.fewer r.is.sent)
 
   -- and then the end is gone
@@ -331,7 +325,7 @@ module _ (is_static : Bool) (plans : List LinkPlan) (old : MembersSeen) (r : IsR
       let n = net is_static plans lost_seen lost_run in
       let at = at_end is_static plans lost_seen lost_run l d end after (record { is_end = is_at.is_end; is_agent = slice_get-set_same old.agents end.member agent after is_at.is_agent }) in
       let may : find (is_numbered number) (n.agents (n.ends l d)).links ≡ None = ap (λ (i : ℕ). find (is_numbered number) (n.agents i).links) at.2 ∙ ap (λ (c : Agent). find (is_numbered number) c.links) at.4 ∙ none in
-      more_rows is_static plans lost_seen lost_run (record lost_seen { ends = slice_set old.ends (end_place l d) (record end { state = Gone }) }) (Leave l d number) refl lost_run.short (at.3 ∙ has, may) tt (λ still. tt)
+      more_rows is_static plans lost_seen lost_run (record lost_seen { ends = slice_set old.ends (end_place l d) (record end { state = Gone }) }) (Leave l d number) refl lost_run.short (at.3 ∙ has, may) tt
       (restated lost_seen n l d end Gone is_at.is_end lost_run.is)
 
 pub loses_run : (is_static : Bool) (plans : List LinkPlan) (old new : MembersSeen) → IsRunOf is_static plans old → LosesLinkAt old new → IsRunOf is_static plans new
@@ -359,7 +353,7 @@ makes_run is_static plans old new r h =
     let may : spent 1 (n.agents m.0.addr).last_count ≡ None = ap (λ (c : Agent). spent 1 c.last_count) is_net ∙ h.room in
     let are = called_at n.agents m.0.addr m.0.addr h.agent b (Makes n.now key h.value) (Makes old.now key h.value) refl is_net event (after_made h.agent old.now key h.value h.room) in
     let small = small_address old.members plans r.laid_out m.0 (is_there old.members h.place m.0 m.1) in
-    alike_run is_static plans (record old { agents = slice_set old.agents h.place b }) new (more_rows is_static plans old r (record old { agents = slice_set old.agents h.place b }) (Make m.0.addr key h.value) refl r.short may ((h.app, refl), small) (λ still. tt)
+    alike_run is_static plans (record old { agents = slice_set old.agents h.place b }) new (more_rows is_static plans old r (record old { agents = slice_set old.agents h.place b }) (Make m.0.addr key h.value) refl r.short may ((h.app, refl), small)
     (changed is_static plans old r h.place m.0 h.agent b m.1 h.is_agent _ n.sent _ _ old.sent old.got are r.is.fewer r.is.sent)) h.stays.members h.stays.ends h.now h.agents h.sent h.got
 
 -- A message is offered
@@ -407,7 +401,7 @@ offers_run is_static plans old new r h =
     subst Q (sym a) (subst R (sym b) here)))
     (λ apart. (let U : List (List ℕ) → Type 0 = λ ts. AreTexts (n.sent k e) (drop (length (old.got (end_place k (other e)))) ts) in
     subst U (sym (h.sent.elsewhere (end_place k e) (λ same. apart (places_apart k e l d same)))) (r.is.sent k e))) in
-    alike_run is_static plans (record old { agents = slice_set old.agents h.end.member after_it; sent = new.sent }) new (more_rows is_static plans old r (record old { agents = slice_set old.agents h.end.member after_it; sent = new.sent }) (Take l d h.number message) refl short (there, may) tt (λ still. tt)
+    alike_run is_static plans (record old { agents = slice_set old.agents h.end.member after_it; sent = new.sent }) new (more_rows is_static plans old r (record old { agents = slice_set old.agents h.end.member after_it; sent = new.sent }) (Take l d h.number message) refl short (there, may) tt
     (changed is_static plans old r h.end.member at.0 h.agent after_it at.1 h.at.is_agent _ (put_sent l d (n.sent l d ++ message ∷ []) n.sent) _ _ new.sent old.got are fewer texts)) h.stays.members h.stays.ends h.now h.agents (λ k. refl) h.got
 
 -- A message is handled
@@ -444,7 +438,7 @@ handles_run is_static plans old new r h =
     subst Q (sym a) (subst R (sym b) (subst U (sym longer) first.4))))
     (λ apart. (let U : List (List ℕ) → Type 0 = λ ts. AreTexts (n.sent k e) (drop (length ts) (old.sent (end_place k e))) in
     subst U (sym (elsewhere k e apart)) (r.is.sent k e))) in
-    alike_run is_static plans (record old { agents = slice_set old.agents h.end.member h.after; got = new.got }) new (more_rows is_static plans old r (record old { agents = slice_set old.agents h.end.member h.after; got = new.got }) (Handle l d h.number (ToNeighbour h.message) rest) refl r.short (at.3 ∙ h.there, may) tt (λ still. tt)
+    alike_run is_static plans (record old { agents = slice_set old.agents h.end.member h.after; got = new.got }) new (more_rows is_static plans old r (record old { agents = slice_set old.agents h.end.member h.after; got = new.got }) (Handle l d h.number (ToNeighbour h.message) rest) refl r.short (at.3 ∙ h.there, may) tt
     (changed is_static plans old r h.end.member at.0 h.agent h.after at.1 h.at.is_agent _ (put_sent l d rest n.sent) _ _ old.sent new.got are fewer texts)) h.stays.members h.stays.ends h.now h.agents h.sent (λ k. refl)
 
 -- A directory entry is taken by all
@@ -496,7 +490,7 @@ module _ (is_static : Bool) (plans : List LinkPlan) (old new : MembersSeen) (r :
 
   pub takes_run : IsRunOf is_static plans new
   takes_run =
-      alike_run is_static plans (record old { agents = map (λ a. takes_item a entry) old.agents }) new (more_rows is_static plans old r (record old { agents = map (λ a. takes_item a entry) old.agents }) (Know entry) refl r.short may_know (h.app, h.at.addr, refl, small_address old.members plans r.laid_out h.at h.among) (λ still. tt) (record {
+      alike_run is_static plans (record old { agents = map (λ a. takes_item a entry) old.agents }) new (more_rows is_static plans old r (record old { agents = map (λ a. takes_item a entry) old.agents }) (Know entry) refl r.short may_know (h.app, h.at.addr, refl, small_address old.members plans r.laid_out h.at h.among) (record {
         now = r.is.now;
         aligned = length-map old.agents (λ a. takes_item a entry) ∙ r.is.aligned;
         agents = taken_agents;
@@ -651,16 +645,13 @@ module _ (is_static : Bool) (plans : List LinkPlan) (s : MembersSeen) (r : IsRun
       let K : List (List ℕ) → Type 0 = λ ts. AreTexts ((net is_static plans s r).sent link Far) ts in
       (r.is.unmade link Far (get_past s.ends (end_place link Far) (omega (arith, behind))), no_texts ((net is_static plans s r).sent link Far) (subst K (past_all [] (length (s.got (end_place link Near))) (omega arith)) (subst T (unsent Far) (r.is.sent link Far))))
 
-not_static : {A : Type 0} (b : Bool) → b ≡ false → b ≡ true → A
-not_static b off on = absurd (both_ways b off on)
-
 -- what a member is after it asked for an enrolment
 after_joined : (a : Agent) (number : ℕ) (member node : List ℕ) → spent 1 a.last_invoke ≡ None → after a (Enrols number member node) ≡ joining a number member node
 after_joined a number member node may = ap (λ (o : Option AgentError). done a (unless o (joining a number member node))) may
 
-pub joins_run : (plans : List LinkPlan) (old new : MembersSeen) → IsRunOf false plans old → JoinsLink old new → IsRunOf false plans new
-joins_run plans old new r h =
-    let n = net false plans old r in
+pub joins_run : (is_static : Bool) (plans : List LinkPlan) (old new : MembersSeen) → IsRunOf is_static plans old → JoinsLink old new → IsRunOf is_static plans new
+joins_run is_static plans old new r h =
+    let n = net is_static plans old r in
     let aligned = r.is.aligned in
     let place_within = slice_get_within old.agents h.place h.agent h.unused.is_agent in
     let m = there old.members h.place (omega (arith, place_within, aligned)) in
@@ -670,35 +661,42 @@ joins_run plans old new r h =
     let near_small = small_address old.members plans r.laid_out m.0 (is_there old.members h.place m.0 m.1) in
     let far_small = small_address old.members plans r.laid_out f.0 (is_there old.members h.far f.0 f.1) in
     let room : spent 1 (n.agents m.0.addr).last_invoke ≡ None = ap (λ (c : Agent). spent 1 c.last_invoke) is_net ∙ h.room in
-    let may : May n (Enrol h.link Near h.number m.0.addr f.0.addr h.member h.node) = (is_free false plans old r h.link h.behind h.unsent, new_number false plans old r h.place h.number m.0 h.agent m.1 h.unused, near_small, far_small, room) in
+    let may : May n (Enrol h.link Near h.number m.0.addr f.0.addr h.member h.node) = (is_free is_static plans old r h.link h.behind h.unsent, new_number is_static plans old r h.place h.number m.0 h.agent m.1 h.unused, near_small, far_small, room) in
     let are = called_at n.agents m.0.addr m.0.addr h.agent b (Enrols h.number h.member h.node) (Enrols h.number h.member h.node) refl is_net refl (after_joined h.agent h.number h.member h.node h.room) in
-    let joined = changed false plans old r h.place m.0 h.agent b m.1 h.unused.is_agent _ n.sent _ _ old.sent old.got are r.is.fewer r.is.sent in
+    let joined = changed is_static plans old r h.place m.0 h.agent b m.1 h.unused.is_agent _ n.sent _ _ old.sent old.got are r.is.fewer r.is.sent in
     let s' : MembersSeen = record old { agents = slice_set old.agents h.place b; ends = old.ends ++ record { member = h.place; state = There h.number } ∷ record { member = h.far; state = Unmade } ∷ [] } in
-    alike_run false plans s' new (more_rows false plans old r s' (Enrol h.link Near h.number m.0.addr f.0.addr h.member h.node) refl r.short may tt (λ still. not_static false refl still)
+    alike_run is_static plans s' new (more_rows is_static plans old r s' (Enrol h.link Near h.number m.0.addr f.0.addr h.member h.node) refl r.short may tt
     (laid_network (record old { agents = slice_set old.agents h.place b }) _ h.link h.number h.place h.far m.0 f.0 m.1 f.1 h.behind joined)) h.members h.ends h.now h.agents h.sent h.got
 
+-- at the start a link that is not made at an end is not made at the other
+other_unmade : (n : Network) (count : ℕ) → HasFirstLinks n count → (l : ℕ) (d : Side) → n.states l d ≡ Unmade → n.states l (other d) ≡ Unmade
+other_unmade n count has l d unmade = elim (cases_lt l count) [
+  | inl lt ↦ absurd ((has l d).0 lt unmade)
+  | inr le ↦ (has l (other d)).1 le
+]
+
 -- the other end of a link that is not made at an end is not up
-ahead_of : (plans : List LinkPlan) (s : MembersSeen) (r : IsRunOf false plans s) → IsAhead (net false plans s r)
-ahead_of plans s r =
-    let told = start_items false s.members plans in
+ahead_of : (is_static : Bool) (plans : List LinkPlan) (s : MembersSeen) (r : IsRunOf is_static plans s) → IsAhead (net is_static plans s r)
+ahead_of is_static plans s r =
+    let told = start_items is_static s.members plans in
     rows_ahead r.start r.rows (begin_holds r.start told r.starts) r.run (record {
       unsent = λ l d e. r.starts.sent l d;
-      down = λ l d e. ap (λ (x : EndState). was_up (link_at x (r.start.agents (r.start.ends l (other d))).links)) (r.free refl l (other d));
+      down = λ l d e. ap (λ (x : EndState). was_up (link_at x (r.start.agents (r.start.ends l (other d))).links)) (other_unmade r.start (first_links is_static plans) r.linked l d e);
     })
 
-pub claims_link_run : (plans : List LinkPlan) (old new : MembersSeen) → IsRunOf false plans old → ClaimsLink old new → IsRunOf false plans new
-claims_link_run plans old new r h =
-    let n = net false plans old r in
+pub claims_link_run : (is_static : Bool) (plans : List LinkPlan) (old new : MembersSeen) → IsRunOf is_static plans old → ClaimsLink old new → IsRunOf is_static plans new
+claims_link_run is_static plans old new r h =
+    let n = net is_static plans old r in
     let l = h.link in
     let d = h.side in
-    let at = at_end false plans old r l d h.end h.agent (record { is_end = h.at; is_agent = h.unused.is_agent }) in
+    let at = at_end is_static plans old r l d h.end h.agent (record { is_end = h.at; is_agent = h.unused.is_agent }) in
     let b : Agent = record h.agent { links = h.agent.links ++ joined_link h.number ∷ [] } in
-    let new_there : IsNewNumber n (n.ends l d) h.number = subst (λ (i : ℕ). IsNewNumber n i h.number) (sym at.2) (new_number false plans old r h.end.member h.number at.0 h.agent at.1 h.unused) in
-    let may : May n (Claim l d h.number) = (at.3 ∙ h.unmade, new_there, (ahead_of plans old r).down l d (at.3 ∙ h.unmade)) in
+    let new_there : IsNewNumber n (n.ends l d) h.number = subst (λ (i : ℕ). IsNewNumber n i h.number) (sym at.2) (new_number is_static plans old r h.end.member h.number at.0 h.agent at.1 h.unused) in
+    let may : May n (Claim l d h.number) = (at.3 ∙ h.unmade, new_there, (ahead_of is_static plans old r).down l d (at.3 ∙ h.unmade)) in
     let are = called_at n.agents (n.ends l d) at.0.addr h.agent b (Claims h.number) (Claims h.number) at.2 at.4 refl refl in
-    let claimed = changed false plans old r h.end.member at.0 h.agent b at.1 h.unused.is_agent _ n.sent _ _ old.sent old.got are r.is.fewer r.is.sent in
+    let claimed = changed is_static plans old r h.end.member at.0 h.agent b at.1 h.unused.is_agent _ n.sent _ _ old.sent old.got are r.is.fewer r.is.sent in
     let s' : MembersSeen = record old { agents = slice_set old.agents h.end.member b; ends = slice_set old.ends (end_place l d) (record h.end { state = There h.number }) } in
-    alike_run false plans s' new (more_rows false plans old r s' (Claim l d h.number) refl r.short may tt (λ still. not_static false refl still)
+    alike_run is_static plans s' new (more_rows is_static plans old r s' (Claim l d h.number) refl r.short may tt
     (restated (record old { agents = slice_set old.agents h.end.member b }) _ l d h.end (There h.number) h.at claimed)) h.members h.ends h.now h.agents h.sent h.got
 
 -- The start
@@ -722,6 +720,29 @@ first_tells_none : (is_static : Bool) (members : List Member) (plans : List Link
 first_tells_none true members plans agents ends now m dynamic laid first among = absurd (both_ways true dynamic refl)
 first_tells_none false members plans agents ends now m dynamic laid first among = others_tell_none some_rules members plans agents ends now m laid first among
 
+-- two ends for each link of the start
+first_ends : (is_static : Bool) (plans : List LinkPlan) (ends : List LinkEnd) → HasLinksIfStatic is_static ends → (is_static ≡ true → length ends ≡ 2 * length plans) → length ends ≡ 2 * first_links is_static plans
+first_ends true plans ends bare planned = planned refl
+first_ends false plans ends bare planned = ap (λ (es : List LinkEnd). length es) (bare refl)
+
+place_within : (l count : ℕ) (d : Side) → l < count → end_place l d < 2 * count
+place_within l count Near lt = omega (arith, lt)
+place_within l count Far lt = omega (arith, lt)
+
+place_past : (l count : ℕ) (d : Side) → count ≤ l → 2 * count ≤ end_place l d
+place_past l count Near le = omega (arith, le)
+place_past l count Far le = omega (arith, le)
+
+state_made : (ends : List LinkEnd) (place : ℕ) → place < length ends → ((k : ℕ) (e : LinkEnd) → slice_get ends k ≡ Some e → e.state ≡ Unmade → ⊥) → end_state (slice_get ends place) ≡ Unmade → ⊥
+state_made ends place lt made unmade = (let e = there ends place lt in made place e.0 e.1 (ap end_state (sym e.1) ∙ unmade))
+
+first_made : (ends : List LinkEnd) (count : ℕ) → length ends ≡ 2 * count → ((k : ℕ) (e : LinkEnd) → slice_get ends k ≡ Some e → e.state ≡ Unmade → ⊥) → (l : ℕ) (d : Side)
+    → (l < count → end_state (slice_get ends (end_place l d)) ≡ Unmade → ⊥) × (count ≤ l → end_state (slice_get ends (end_place l d)) ≡ Unmade)
+first_made ends count are made l d = (
+  λ lt. (let within = place_within l count d lt in state_made ends (end_place l d) (omega (arith, within, are)) made),
+  λ le. (let past = place_past l count d le in ap end_state (get_past ends (end_place l d) (omega (arith, past, are)))),
+)
+
 pub start_run : Greatest → (is_static : Bool) (plans : List LinkPlan) (s : MembersSeen) → StartsWith is_static plans s → IsRunOf is_static plans s
 start_run greatest is_static plans s h =
     let n = first_network is_static some_rules s.members plans s.agents s.ends s.now in
@@ -735,11 +756,10 @@ start_run greatest is_static plans s h =
       starts = network_starts is_static some_rules s.members plans s.agents s.ends s.now h.laid_out h.first h.ends;
       fresh = network_fresh is_static some_rules s.members plans s.agents s.ends s.now h.laid_out h.first h.ends;
       tells = λ still m among. first_tells greatest is_static s.members plans s.agents s.ends s.now m still h.laid_out h.first among;
-      free = λ dynamic l d. ap (λ (es : List LinkEnd). end_state (slice_get es (end_place l d))) (h.bare dynamic);
+      linked = first_made s.ends (first_links is_static plans) (first_ends is_static plans s.ends h.bare h.planned) h.made;
       tells_none = λ dynamic m among. first_tells_none is_static s.members plans s.agents s.ends s.now m dynamic h.laid_out h.first among;
       run = tt;
       of = tt;
-      static = λ still. tt;
       is = record {
         now = refl;
         aligned = h.first.aligned;

@@ -1,5 +1,5 @@
 -- The numbers of what is sent in a DIF fit in 32 bits: those of items by what was made, and those of an enrolment by the counters of requests.
-use Rattle.std.proofs.Common.{◌≡◌, ℕ, ◌+◌, ◌≤◌, ◌<◌, ◌^◌, ◌⊎◌, Bool, true, false, ◌==◌, cond, List, [], ◌∷◌, ◌++◌, map, length, Contains, slice_get, slice_set, Option, Some, None, Ok, refl, sym, ◌∙◌, ap, subst, inl, inr, arith}
+use Rattle.std.proofs.Common.{◌≡◌, ℕ, ◌≤◌, ◌<◌, ◌^◌, Bool, true, false, ◌==◌, cond, List, [], ◌∷◌, ◌++◌, map, length, Contains, slice_get, slice_set, Option, Some, None, Ok, refl, sym, ◌∙◌, subst, inl, inr, arith}
 use Rattle.std.specs.Prelude.{find, position, not}
 use Rattle.std.proofs.lemmas.Bool.{cases_Bool}
 use Rattle.std.proofs.lemmas.List.Elements.{Contains-append_cases, Contains-push_cases}
@@ -25,19 +25,19 @@ use Rattle.rina_agent.specs.declared.message.Waiting.{Waiting}
 use Rattle.rina_agent.specs.declared.state.AgentError.{AgentError}
 use Rattle.rina_agent.specs.declared.state.MemberState.{MemberState}
 use Rattle.rina_agent.specs.declared.state.MemberState.TheVariants.{Outside, Joining, Enrolled, Denied}
-use Rattle.rina_agent.specs.Agenda.{first_on, flood_on, floods, is_flooded, item_on, near, waiting_on, waits_on, without_first, without_link}
+use Rattle.rina_agent.specs.Agenda.{first_on, flood_on, floods, item_on, near, waits_on, without_first}
 use Rattle.rina_agent.specs.Counts.{next_of, spent, unless}
-use Rattle.rina_agent.specs.Enrolled.{Handles, done}
+use Rattle.rina_agent.specs.Enrolled.{done}
 use Rattle.rina_agent.specs.Enrolments.{hears, is_numbered}
-use Rattle.rina_agent.specs.Items.{made, own_item, stated, took}
+use Rattle.rina_agent.specs.Items.{made, own_item, stated}
 use Rattle.rina_agent.specs.Neighbours.{link_key, link_state}
-use Rattle.rina_agent.specs.Rows.{allowed_as, allowed_by, connected_as, connected_by, denial, denial_in, denied_by, dropped, either, entered, handled, introduced_in, joined_link, joining, need_in, noted_by, peer_by, start_batch, started, started_as, started_by, stop_batch, stopped_as, stopped_by, up_link, was_up}
+use Rattle.rina_agent.specs.Rows.{allowed_as, allowed_by, connected_as, connected_by, denial, denial_in, denied_by, dropped, either, entered, handled, introduced_in, joining, need_in, noted_by, peer_by, start_batch, started, started_as, started_by, stop_batch, stopped_as, stopped_by, up_link, was_up}
 use Rattle.rina_plan.specs.declared.dif.LinkPlan.{LinkPlan}
 use Rattle.rina_data.specs.declared.settings.Member.{Member}
 use Rattle.rina_member.specs.Knowing.{IsLaidOut}
 use Rattle.rina_member.specs.Start.{start_items}
 use Rattle.rina_member.proofs.Lists.{found}
-use Rattle.rina_flood.specs.Network.{Side, other, EndState, Unmade, There, Gone, Network, put_agent, put_sent, unhandled, waiting_at, Row, Make, Put, Take, Handle, Lose, Leave, Drop, Enrol, Claim, Know, Pass, happens, May, IsRun, after_rows, IsStart, is_enrolled, with_message}
+use Rattle.rina_flood.specs.Network.{Side, other, EndState, Unmade, There, Gone, Network, put_agent, put_sent, unhandled, waiting_at, Row, Make, Put, Take, Handle, Lose, Leave, Drop, Enrol, Claim, Know, Pass, happens, May, IsRun, after_rows, IsStart, is_enrolled}
 use Rattle.rina_flood.specs.Static.{AreOfDif}
 use Rattle.rina_flood.proofs.All.{begin_holds, row_holds}
 use Rattle.rina_flood.proofs.Bounds.{item_fits}
@@ -45,7 +45,6 @@ use Rattle.rina_flood.proofs.Calls.{at_place}
 use Rattle.rina_flood.proofs.Holds.{Holds}
 use Rattle.rina_flood.proofs.Known.{knower}
 use Rattle.rina_flood.proofs.Places.{nothing_in, in_cons, in_first, in_rest, direction_case, without_cons}
-use Rattle.rina_flood.proofs.Static.{found_at}
 use Rattle.rina_flood.proofs.Steps.{popped_before}
 use Rattle.std.proofs.lemmas.List.Quantifiers.{position-Some}
 

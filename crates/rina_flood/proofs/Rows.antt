@@ -18,7 +18,7 @@ use Rattle.rina_flood.specs.Network.{Side, other, There, Network, link_at, waiti
 use Rattle.rina_flood.proofs.Agendas.{AreFlooded, follows_at, remains_at, reaches_at}
 use Rattle.rina_flood.proofs.Calls.{AreFewer, at_itself, at_others, at_place, fewer_stand, laid_on, knows_more, offers_from, new_by_count, told_more}
 use Rattle.rina_flood.proofs.Flow.{IsTaken, taken_flooded}
-use Rattle.rina_flood.proofs.Holds.{is_plain, ArePlain, IsNoted, Holds}
+use Rattle.rina_flood.proofs.Holds.{is_plain, IsPlain, IsNoted, Holds}
 use Rattle.rina_flood.proofs.Places.{in_one, put_case, flat_from, flat_in}
 
 -- An item is taken by a call of one member
@@ -97,9 +97,9 @@ module _ (n : Network) (i : ℕ) (b : Agent) (sent : ℕ → Side → List Manag
     reaches = sound_reaches s;
   }
 
-  pub sound_plain : IsSound → ArePlain n → (l : ℕ) (d : Side) (m : ManagementMessage) → Contains (sent l d ++ waiting_at (n.states l d) (at_end l d).agenda) m → is_plain m ≡ true
-  sound_plain s h l d m e = elim (sound_follows s l d m e) [
-    | inl old ↦ h l d m old
+  pub sound_plain : IsSound → (l : ℕ) (d : Side) → IsPlain n l d → (m : ManagementMessage) → Contains (sent l d ++ waiting_at (n.states l d) (at_end l d).agenda) m → is_plain m ≡ true
+  sound_plain s l d h m e = elim (sound_follows s l d m e) [
+    | inl old ↦ h m old
     | inr new ↦ (let P : ManagementMessage → Type 0 = λ z. is_plain z ≡ true in subst P new.1 refl)
   ]
 

@@ -1,6 +1,6 @@
 -- The other rows: messages move, or are lost with their links.
 use Rattle.std.proofs.Common.{◌≡◌, ℕ, ◌⊎◌, Bool, true, false, ◌&&◌, ◌||◌, not, cond, List, ◌∷◌, ◌++◌, Contains, Option, Some, None, Ok, refl, sym, ◌∙◌, ap, subst, inl, inr, arith, append_assoc, []}
-use Rattle.std.specs.Prelude.{find, is_some}
+use Rattle.std.specs.Prelude.{is_some}
 use Rattle.std.proofs.lemmas.Bool.{and_parts, and_from, both_ways}
 use Rattle.std.proofs.lemmas.List.{append-nil}
 use Rattle.std.proofs.lemmas.Option.{none-some}
@@ -17,7 +17,6 @@ use Rattle.rina_agent.specs.declared.state.AgentError.{AgentError}
 use Rattle.rina_agent.specs.Agenda.{waiting_on, first_on, without_first}
 use Rattle.rina_agent.specs.Counts.{spent, unless}
 use Rattle.rina_agent.specs.Enrolled.{done}
-use Rattle.rina_agent.specs.Enrolments.{is_numbered}
 use Rattle.rina_agent.specs.Items.{made, stated, own_item}
 use Rattle.rina_agent.specs.Neighbours.{link_key, link_state}
 use Rattle.rina_agent.specs.Rows.{was_up, dropped}
@@ -25,7 +24,7 @@ use Rattle.rina_flood.specs.Network.{Side, Near, Far, other, EndState, Unmade, T
 use Rattle.rina_flood.proofs.Agendas.{lost_fewer, dropped_from_at, dropped_stays_at}
 use Rattle.rina_flood.proofs.Calls.{AreFewer, fewer_has, fewer_up, same_links, at_itself, at_place, knows_same, offers_from}
 use Rattle.rina_flood.proofs.Flow.{IsMoved, moved_flooded}
-use Rattle.rina_flood.proofs.Holds.{is_plain, ArePlain, Holds}
+use Rattle.rina_flood.proofs.Holds.{is_plain, IsPlain, Holds}
 use Rattle.rina_flood.proofs.Messages.{first_waits, others_at, front_at, from_at, old_at}
 use Rattle.rina_flood.proofs.Places.{nothing_in, put_case, direction_case, flat_from, flat_in}
 use Rattle.rina_flood.proofs.Rows.{own_holds}
@@ -83,8 +82,8 @@ module _ (n : Network) (agents : ℕ → Agent) (sent : ℕ → Side → List Ma
   moving_moved : IsMoving → IsMoved n agents sent
   moving_moved s = record { items = λ j. (let c = s.same j in c.items); opens = moving_stands s; follows = moving_way s; remains = moving_back s }
 
-  pub moving_plain : (s : IsMoving) → s.plain ≡ true → ArePlain n → (l : ℕ) (d : Side) (m : ManagementMessage) → Contains (unhandled moved l d) m → is_plain m ≡ true
-  moving_plain s plain h l d m e = elim (s.follows l d m e) [ inl old ↦ h l d m old | inr new ↦ new.1 plain ]
+  pub moving_plain : (s : IsMoving) → s.plain ≡ true → (l : ℕ) (d : Side) → IsPlain n l d → IsPlain moved l d
+  moving_plain s plain l d h m e = elim (s.follows l d m e) [ inl old ↦ h m old | inr new ↦ new.1 plain ]
 
   pub moving_holds : IsMoving → Holds n → Holds moved
   moving_holds s h = (let g = moved_flooded n agents sent (moving_moved s) h.flooded in record {

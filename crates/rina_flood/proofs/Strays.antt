@@ -1,5 +1,5 @@
 -- Each message that waits at a member waits for a link that it has.
-use Rattle.std.proofs.Common.{◌≡◌, ℕ, ◌⊎◌, Bool, true, false, ◌==◌, cond, List, [], ◌∷◌, ◌++◌, map, Contains, slice_set, Option, Some, None, Ok, refl, sym, ◌∙◌, ap, subst, inl, inr}
+use Rattle.std.proofs.Common.{◌≡◌, ℕ, Bool, true, false, ◌==◌, cond, List, [], ◌∷◌, ◌++◌, map, Contains, slice_set, Option, Some, None, Ok, refl, sym, ◌∙◌, ap, subst, inl, inr}
 use Rattle.std.specs.Prelude.{find, is_some, not}
 use Rattle.std.proofs.lemmas.Bool.{both_ways, cases_Bool, eq-eqb, eqb-true}
 use Rattle.std.proofs.lemmas.List.Elements.{Contains-append_cases, Contains-push_cases}
@@ -14,24 +14,23 @@ use Rattle.rina_newest.specs.Newest.{is_newer, kept_at, taken}
 use Rattle.rina_route.proofs.Lists.{contains_filter, contains_unmap}
 use Rattle.rina_agent.specs.declared.agent.Agent.{Agent}
 use Rattle.rina_agent.specs.declared.link.Link.{Link}
-use Rattle.rina_agent.specs.declared.message.ManagementMessage.{ManagementMessage}
 use Rattle.rina_agent.specs.declared.message.ManagementMessage.TheVariants.{ToNeighbour, ToMember}
 use Rattle.rina_agent.specs.declared.message.Waiting.{Waiting}
 use Rattle.rina_agent.specs.declared.state.AgentError.{AgentError}
 use Rattle.rina_agent.specs.declared.state.MemberState.{MemberState}
 use Rattle.rina_agent.specs.declared.state.MemberState.TheVariants.{Outside, Joining, Enrolled, Denied}
-use Rattle.rina_agent.specs.Agenda.{flood_on, floods, is_flooded, item_on, near, waiting_on, waits_on, without_first, without_link}
+use Rattle.rina_agent.specs.Agenda.{flood_on, floods, is_flooded, item_on, near, waiting_on, waits_on}
 use Rattle.rina_agent.specs.Counts.{next_of, spent, unless}
 use Rattle.rina_agent.specs.Enrolled.{done}
 use Rattle.rina_agent.specs.Enrolments.{hears, is_numbered, place_of}
 use Rattle.rina_agent.specs.Items.{made, own_item, stated}
 use Rattle.rina_agent.specs.Neighbours.{link_key, link_state}
 use Rattle.rina_agent.specs.Rows.{allowed_as, allowed_by, connected_as, connected_by, denial, denied_by, dropped, either, entered, handled, introduced_in, joined_link, joining, joining_link, need_in, noted_by, peer_by, start_batch, started, started_as, started_by, stop_batch, stopped_as, stopped_by, up_link, was_up}
-use Rattle.rina_flood.specs.Network.{Side, other, Network, put_agent, Row, Make, Put, Take, Handle, Lose, Leave, Drop, Enrol, Claim, Know, Pass, happens, May, IsRun, after_rows, is_enrolled}
+use Rattle.rina_flood.specs.Network.{other, Network, put_agent, Row, Make, Put, Take, Handle, Lose, Leave, Drop, Enrol, Claim, Know, Pass, happens, May, IsRun, after_rows, is_enrolled}
 use Rattle.rina_flood.proofs.Calls.{at_place}
 use Rattle.rina_flood.proofs.Heard.{IsHeard, found_number, is_heard, placed, set_link, set_other, set_same}
 use Rattle.rina_flood.proofs.Known.{knower}
-use Rattle.rina_flood.proofs.Messages.{spared_link, without_number}
+use Rattle.rina_flood.proofs.Messages.{spared_link}
 use Rattle.rina_flood.proofs.Places.{nothing_in, in_cons, in_first, in_rest}
 use Rattle.rina_flood.proofs.Ranges.{shorter}
 

@@ -8,14 +8,13 @@ use Rattle.std.proofs.lemmas.Option.{none-some, same_Some}
 use Rattle.rina_enrol.specs.declared.message.LinkMessage.{LinkMessage}
 use Rattle.rina_enrol.specs.declared.message.LinkMessage.TheVariants as messages
 use Rattle.rina_newest.specs.declared.item.Item.{Item}
-use Rattle.rina_newest.specs.Newest.{is_below, is_newer, kept_at, value_at, taken, taken_all, IsNewest}
+use Rattle.rina_newest.specs.Newest.{is_below, is_newer, kept_at, taken, taken_all, IsNewest}
 use Rattle.rina_agent.specs.declared.agent.Agent.{Agent}
 use Rattle.rina_agent.specs.declared.link.Link.{Link}
 use Rattle.rina_agent.specs.declared.message.ManagementMessage.{ManagementMessage}
 use Rattle.rina_agent.specs.declared.message.ManagementMessage.TheVariants.{ToNeighbour, ToMember}
 use Rattle.rina_agent.specs.declared.message.Waiting.{Waiting}
 use Rattle.rina_agent.specs.declared.state.AgentError.{AgentError}
-use Rattle.rina_agent.specs.Agenda.{floods}
 use Rattle.rina_agent.specs.Counts.{next_of, spent, unless}
 use Rattle.rina_agent.specs.Enrolled.{done, Handles, Loses, Makes}
 use Rattle.rina_agent.specs.Enrolments.{is_numbered}
@@ -27,7 +26,7 @@ use Rattle.rina_flood.specs.Network.{Side, Near, Far, other, EndState, Unmade, T
 use Rattle.rina_flood.specs.Laws.{LeavesLinkState, AllLeaveLinkState, TellsLinks, TellsNone, IsQuietWalk, QuietTellsLinks}
 use Rattle.rina_flood.proofs.Calls.{at_place, at_itself}
 use Rattle.rina_flood.proofs.Agendas.{lost_fewer}
-use Rattle.rina_flood.proofs.Enrolling.{IsQuiet, quiet_called}
+use Rattle.rina_flood.proofs.Enrolling.{quiet_called}
 use Rattle.rina_flood.proofs.Entering.{holds_kept, raised_states}
 use Rattle.rina_flood.proofs.Holds.{Holds}
 use Rattle.rina_flood.proofs.Keeping.{IsKept, with_items}

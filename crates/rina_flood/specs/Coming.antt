@@ -1,5 +1,5 @@
 -- What comes over a link of a DIF.
-use Rattle.std.specs.Prelude.{◌≡◌, ℕ, Bool, true, List, length, slice_get, Some}
+use Rattle.std.specs.Prelude.{◌≡◌, ℕ, ◌<◌, Bool, true, List, length, slice_get, Some}
 use Rattle.rina_enrol.specs.declared.message.LinkMessage.{LinkMessage}
 use Rattle.rina_enrol.specs.Messages.{IsInRange, IsSpelled}
 use Rattle.rina_newest.specs.declared.item.Item.{Item}
@@ -20,13 +20,13 @@ pub record ComesNext (s : MembersSeen) (l : ℕ) (d : Side) (end : LinkEnd) (age
   pub in_range : IsInRange message
   pub spelled : IsSpelled message text
 
--- the message is short; where it brings the link state of the member to which it comes, this keeps one as new; and in a static DIF it
--- brings an item
-pub record IsOfMember (is_static : Bool) (agent : Agent) (message : LinkMessage) : Type 0 where
+-- the message is short; where it brings the link state of the member to which it comes, this keeps one as new; and on a link of the plan
+-- of a static DIF, on which no enrolment runs, it brings an item
+pub record IsOfMember (is_static : Bool) (plans : List LinkPlan) (l : ℕ) (agent : Agent) (message : LinkMessage) : Type 0 where
   pub short : IsShort (ToNeighbour message)
   pub own : OwnIsNewest agent message
-  pub brings : is_static ≡ true → (item : Item) × (item_in message ≡ Some item)
+  pub brings : is_static ≡ true → l < length plans → (item : Item) × (item_in message ≡ Some item)
 
 -- each message that comes is such a one
 abbrev pub WhatComes : Type 0
-WhatComes = (is_static : Bool) (plans : List LinkPlan) (s : MembersSeen) (l : ℕ) (d : Side) (end : LinkEnd) (agent : Agent) (message : LinkMessage) → IsRunOf is_static plans s → ComesNext s l d end agent message → IsOfMember is_static agent message
+WhatComes = (is_static : Bool) (plans : List LinkPlan) (s : MembersSeen) (l : ℕ) (d : Side) (end : LinkEnd) (agent : Agent) (message : LinkMessage) → IsRunOf is_static plans s → ComesNext s l d end agent message → IsOfMember is_static plans l agent message

@@ -10,7 +10,7 @@ use Rattle.rina_agent.specs.Enrolments.{is_numbered}
 use Rattle.rina_agent.specs.Items.{took}
 use Rattle.rina_agent.specs.Neighbours.{link_key, link_state}
 use Rattle.rina_agent.specs.Rows.{handled, was_up}
-use Rattle.rina_flood.specs.Network.{Side, Near, Far, other, Network, Row, Make, Know, Enrol, Claim, Lose, joins, has_link, stands, on_way, happens, May, IsRun, after_rows, IsStart}
+use Rattle.rina_flood.specs.Network.{Side, Near, Far, other, Network, Row, Make, Know, Lose, joins, has_link, stands, on_way, happens, May, IsRun, after_rows, IsStart}
 
 -- an item of the same key that is at least as new stands in a list
 pub record IsComing (items : List Item) (x : Item) : Type 0 where
@@ -74,16 +74,6 @@ LeavesLinkState address other = Unit {0}
 abbrev pub AllLeaveLinkState : ℕ → List Row → Type 0
 AllLeaveLinkState address [] = Unit {0}
 AllLeaveLinkState address (row ∷ rows) = LeavesLinkState address row × AllLeaveLinkState address rows
-
--- no link is made: the links are those of the start
-abbrev pub MakesNoLink : Row → Type 0
-MakesNoLink (Enrol link side number i j member node) = ⊥
-MakesNoLink (Claim link side number) = ⊥
-MakesNoLink other = Unit {0}
-
-abbrev pub IsStatic : List Row → Type 0
-IsStatic [] = Unit {0}
-IsStatic (row ∷ rows) = MakesNoLink row × IsStatic rows
 
 -- a member keeps its own link state, made by itself, which names its links that are up
 pub record TellsLinks (n : Network) (i : ℕ) : Type 0 where

@@ -1,5 +1,5 @@
 -- The members of a DIF as a network: what stands at a moment, what happens to it, and that each is a row.
-use Rattle.std.specs.Prelude.{◌≡◌, ℕ, ◌≤◌, ◌⊎◌, Bool, false, List, [], ◌∷◌, ◌++◌, drop, length, map, slice_get, slice_set, Option, Some, None, Ok, true, Contains, find, ◌<◌, ◌^◌}
+use Rattle.std.specs.Prelude.{◌≡◌, ℕ, ◌*◌, ◌≤◌, ◌⊎◌, Bool, false, List, [], ◌∷◌, ◌++◌, drop, length, map, slice_get, slice_set, Option, Some, None, Ok, true, Contains, find, ◌<◌, ◌^◌}
 use Rattle.rina_enrol.specs.declared.message.LinkMessage.{LinkMessage}
 use Rattle.rina_enrol.specs.Messages.{IsInRange, IsSpelled}
 use Rattle.rina_newest.specs.Newest.{kept_at, value_at}
@@ -7,7 +7,7 @@ use Rattle.rina_agent.specs.declared.agent.Agent.{Agent}
 use Rattle.rina_agent.specs.declared.message.ManagementMessage.{ManagementMessage}
 use Rattle.rina_agent.specs.declared.message.ManagementMessage.TheVariants.{ToNeighbour, ToMember}
 use Rattle.rina_agent.specs.declared.state.MemberState.TheVariants.{Enrolled}
-use Rattle.rina_agent.specs.Agenda.{first_on, waiting_on, without_first}
+use Rattle.rina_agent.specs.Agenda.{first_on, without_first}
 use Rattle.rina_agent.specs.Counts.{spent}
 use Rattle.rina_agent.specs.Enrolments.{is_numbered}
 use Rattle.rina_agent.specs.Items.{made}
@@ -20,8 +20,8 @@ use Rattle.rina_member.specs.Knowing.{IsLaidOut, SameEdges, all_claims}
 use Rattle.rina_member.specs.Managements.{entry_of, takes_item}
 use Rattle.rina_member.specs.Short.{IsShort}
 use Rattle.rina_member.specs.Start.{HasLinksIfStatic, start_items}
-use Rattle.rina_flood.specs.Network.{Side, Near, other, EndState, Unmade, There, Gone, Network, Row, link_at, waiting_at, MayLose, IsRun, after_rows, IsStart}
-use Rattle.rina_flood.specs.Laws.{IsStatic, TellsLinks, TellsNone}
+use Rattle.rina_flood.specs.Network.{Side, Near, other, Unmade, There, Gone, Network, Row, link_at, waiting_at, MayLose, IsRun, after_rows, IsStart}
+use Rattle.rina_flood.specs.Laws.{TellsLinks, TellsNone}
 use Rattle.rina_flood.specs.Static.{AreEnds, AreFirst, AreOfDif, LinkEnd, end_place}
 
 -- what stands at a moment
@@ -82,9 +82,18 @@ pub record IsNetworkOf (s : MembersSeen) (n : Network) : Type 0 where
   pub fewer : (l : ℕ) (d : Side) → length (s.got (end_place l (other d))) ≤ length (s.sent (end_place l d))
   pub sent : (l : ℕ) (d : Side) → AreTexts (n.sent l d) (drop (length (s.got (end_place l (other d)))) (s.sent (end_place l d)))
 
+-- the first links of a network, so many, were made at both ends, and every other at none
+abbrev pub HasFirstLinks : Network → ℕ → Type 0
+HasFirstLinks n count = (l : ℕ) (d : Side) → (l < count → n.states l d ≡ Unmade → ⊥) × (count ≤ l → n.states l d ≡ Unmade)
+
+-- a static DIF starts with the links of its plan, any other with none
+abbrev pub first_links : Bool → List LinkPlan → ℕ
+first_links true plans = length plans
+first_links false plans = 0
+
 -- the members are laid out, what stands is the network of a run from the start of the DIF, so that all laws of flooding hold of it, and
--- what was offered are short messages. In a static DIF each member told its links from the start, and no link is made; in any other there was
--- no link at the start, and nobody told one
+-- what was offered are short messages. A static DIF started with the links of its plan, and each member told its links; any other started
+-- without links, and nobody told one. In both, enrolments may have made links since
 pub record IsRunOf (is_static : Bool) (plans : List LinkPlan) (s : MembersSeen) : Type 0 where
   pub laid_out : IsLaidOut s.members plans
   pub start : Network
@@ -92,20 +101,22 @@ pub record IsRunOf (is_static : Bool) (plans : List LinkPlan) (s : MembersSeen) 
   pub starts : IsStart start (start_items is_static s.members plans)
   pub fresh : (i : ℕ) → ((start.agents i).last_count ≡ 0) × ((start.agents i).last_invoke ≡ 0)
   pub tells : is_static ≡ true → (m : Member) → Contains s.members m → TellsLinks start m.addr
-  pub free : is_static ≡ false → (l : ℕ) (d : Side) → start.states l d ≡ Unmade
+  pub linked : HasFirstLinks start (first_links is_static plans)
   pub tells_none : is_static ≡ false → (m : Member) → Contains s.members m → TellsNone start m.addr
   pub run : IsRun start rows
   pub of : AreOfDif rows
-  pub static : is_static ≡ true → IsStatic rows
   pub is : IsNetworkOf s (after_rows start rows)
   pub short : AreShortTexts s.sent
 
 -- What happens
 
--- members as they start: nothing was offered or handled, and a DIF that is not static has no links
+-- members as they start: nothing was offered or handled, a static DIF has two ends for each link of its plan, all of them made, and a DIF
+-- that is not static has no links
 pub record StartsWith (is_static : Bool) (plans : List LinkPlan) (s : MembersSeen) : Type 0 where
   pub laid_out : IsLaidOut s.members plans
   pub bare : HasLinksIfStatic is_static s.ends
+  pub planned : is_static ≡ true → length s.ends ≡ 2 * length plans
+  pub made : (k : ℕ) (e : LinkEnd) → slice_get s.ends k ≡ Some e → e.state ≡ Unmade → ⊥
   pub first : AreFirst is_static s.members plans s.agents
   pub ends : AreEnds s.members s.ends
   pub sent : (place : ℕ) → s.sent place ≡ []
@@ -280,10 +291,6 @@ StartIsRun = (is_static : Bool) (plans : List LinkPlan) (s : MembersSeen) → St
 -- and they still are after it happened
 abbrev pub KeepsRun : (MembersSeen → MembersSeen → Type 0) → Type 0
 KeepsRun Happens = (is_static : Bool) (plans : List LinkPlan) (old new : MembersSeen) → IsRunOf is_static plans old → Happens old new → IsRunOf is_static plans new
-
--- so they are where a link is made, in a DIF that is not static
-abbrev pub KeepsEnrolling : (MembersSeen → MembersSeen → Type 0) → Type 0
-KeepsEnrolling Happens = (plans : List LinkPlan) (old new : MembersSeen) → IsRunOf false plans old → Happens old new → IsRunOf false plans new
 
 -- Where all is quiet
 

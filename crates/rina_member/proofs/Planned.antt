@@ -31,33 +31,7 @@ use Rattle.rina_member.specs.Start.{managed_link}
 use Rattle.rina_member.specs.Knowing.{AreNumbered, IsPlanned, hops_of}
 use Rattle.rina_member.proofs.Laying.{own_is}
 use Rattle.rina_member.proofs.Lists.{at_place, both_true, found, keeps_all, made_of, not_found}
-use Rattle.rina_member.proofs.Removing.{is_other}
-
--- The first element that passes is gone
-
-abbrev gone : {A : Type 0} → (A → Bool) → List A → List A
-gone p [] = []
-gone p (x ∷ xs) = cond (p x) xs (x ∷ gone p xs)
-
-gone_step : {A : Type 0} (p : A → Bool) (x : A) (xs : List A) (b : Bool) → remove xs (position_or_len p xs) ≡ gone p xs → remove (x ∷ xs) (cond (not b) (1 + position_or_len p xs) 0) ≡ cond b xs (x ∷ gone p xs)
-gone_step p x xs true h = refl
-gone_step p x xs false h =
-    let one : 1 + position_or_len p xs ≡ suc (position_or_len p xs) = omega arith in
-    ap (λ (n : ℕ). remove (x ∷ xs) n) one ∙ ap (λ ys. x ∷ ys) h
-
-gone_is : {A : Type 0} (p : A → Bool) (xs : List A) → remove xs (position_or_len p xs) ≡ gone p xs
-gone_is p [] = refl
-gone_is p (x ∷ xs) = gone_step p x xs (p x) (gone_is p xs)
-
-at_step : {A : Type 0} (xs : List A) (n : ℕ) (b : Bool) → ltb n (length xs) ≡ b → without_at (cond b (Some n) None) xs ≡ remove xs n
-at_step xs n true is = refl
-at_step xs n false is =
-    let le : length xs ≤ n = ltb-false n (length xs) is in
-    let le' : length xs ≤ suc n = omega arith in
-    sym (ap (λ ys. ys ++ drop (suc n) xs) (take_all n xs le) ∙ ap (λ ys. xs ++ ys) (drop_all (suc n) xs le') ∙ append-nil xs)
-
-without_is : {A : Type 0} (p : A → Bool) (xs : List A) → without_at (position p xs) xs ≡ gone p xs
-without_is p xs = at_step xs (position_or_len p xs) (ltb (position_or_len p xs) (length xs)) refl ∙ gone_is p xs
+use Rattle.rina_member.proofs.Removing.{gone, is_other, without_is}
 
 -- Links of different numbers
 

@@ -39,7 +39,7 @@ at_step xs n false is =
     let le' : length xs ≤ suc n = omega arith in
     sym (ap (λ ys. ys ++ drop (suc n) xs) (take_all n xs le) ∙ ap (λ ys. xs ++ ys) (drop_all (suc n) xs le') ∙ append-nil xs)
 
-without_is : {A : Type 0} (p : A → Bool) (xs : List A) → without_at (position p xs) xs ≡ gone p xs
+pub without_is : {A : Type 0} (p : A → Bool) (xs : List A) → without_at (position p xs) xs ≡ gone p xs
 without_is p xs = at_step xs (position_or_len p xs) (ltb (position_or_len p xs) (length xs)) refl ∙ gone_is p xs
 
 -- Numbers

@@ -8,8 +8,8 @@ use rina_base::{AppName, Memory, Name};
 use std::alloc::Global;
 
 /// The management of a member after it asked for an enrolment at the member of a name, which is on a node, on a new link of a
-/// number: CONNECT waits there. Refused with `CountSpent` where no invoke id is left. No live link may have the number. The one that is
-/// given stays as it is.
+/// number: CONNECT waits there. Refused with `CountSpent` where no invoke id is left. The number is meant to be one that no live link has.
+/// The management that is given stays as it is.
 pub fn joining(
     alloc: Global,
     management: &Management,
@@ -24,8 +24,8 @@ pub fn joining(
     Ok(after)
 }
 
-/// The management of a member after it got a new link of a number, on which another may join: it waits for CONNECT. No live link may
-/// have the number. The one that is given stays as it is.
+/// The management of a member after it got a new link of a number, on which another may join: it waits for CONNECT. The number is meant to
+/// be one that no live link has. The management that is given stays as it is.
 pub fn claimed(alloc: Global, management: &Management, link: u16) -> Result<Management, Memory>
     ensures { IfOk result (λ after. after ≡ with_agent management.now (claimed management.now.agent link)) }
 {
