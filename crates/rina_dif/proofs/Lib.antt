@@ -47,6 +47,7 @@ pub mod MessageSteps
 pub mod Moves
 pub mod Named
 pub mod Naming
+pub mod NewLinks
 pub mod Offered
 pub mod OnLinks
 pub mod OpenEnd

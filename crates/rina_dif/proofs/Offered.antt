@@ -102,6 +102,7 @@ sent_managed : (is_static : Bool) (members : List Member) (plans : List LinkPlan
 sent_managed is_static members plans now m p g number h = record {
   knows = sends_knowing now m p.links g number h.knows;
   planned = λ still. planned_links members plans m p.links g.agent (with_sent g number).agent refl (h.planned still);
+  none_made = h.none_made;
   bounded = h.bounded;
   routes = record { rows = h.routes.rows; hops = h.routes.hops; are = h.routes.are };
   tells = sends_near number g h.tells;

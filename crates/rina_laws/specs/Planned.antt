@@ -19,8 +19,8 @@ abbrev pub StaysAsPlanned : Type 0
 StaysAsPlanned = (plan : Plan) (shelf : List Slot) (start : Stage) (lines : List (List ℕ)) (ns : List Note) (s : Stage) → IsOpening plan shelf start → Runs plan 1 start lines ns s → IsAsPlanned plan s.run.tower
 
 -- a DIF has the settings of a DIF of the stack, which has this rank; each of its IPC processes has its next hops by least walks over its
--- own links that are up, in a static DIF the live ones of those that the stack says, and the edges that both ends claim in the items of its
--- management
+-- own links that are up, and the edges that both ends claim in the items of its management. In a static DIF the own links are the live ones of
+-- those that the stack says, and behind them those that enrolments made, of which there are none yet
 pub record IsRoutedAs (plan : Plan) (rank : ℕ) (d : Dif) : Type 0 where
   pub place : ℕ
   pub dif : DifPlan

@@ -1,5 +1,5 @@
 -- What holds of a member after it handled a message of a neighbour, if each row of its agent keeps it.
-use Rattle.std.proofs.Common.{◌≡◌, inl, inr, ⊎_elim, ◌⊎◌, ℕ, List, [], ◌∷◌, ◌++◌, Option, Some, None, Result, Ok, Err, Contains, map, slice_get, slice_set, refl, sym, ap, subst}
+use Rattle.std.proofs.Common.{◌≡◌, inl, inr, ⊎_elim, ◌⊎◌, ℕ, List, [], ◌∷◌, ◌++◌, Option, Some, None, IsSome, Result, Ok, Err, Contains, map, slice_get, slice_set, refl, sym, ap, subst}
 use Rattle.std.specs.Prelude.{option_and_then, option_map}
 use Rattle.std.proofs.lemmas.List.Elements.{Contains-append_cases}
 use Rattle.std.proofs.lemmas.Option.{none-some, same_Some}
@@ -30,25 +30,27 @@ use Rattle.rina_member.proofs.Counting.{both_left}
 
 -- The link on which a message was heard
 
--- it stands at a place, and has another enrolment
+-- it stands at a place, an enrolment made it, and it is as before but for that
 pub record IsHeard (links : List Link) (at : ℕ) (l : Link) : Type 0 where
   pub old : Link
   pub stands : slice_get links at ≡ Some old
   pub is : l ≡ record old { enrolment = l.enrolment }
+  pub was_made : IsSome old.enrolment
+  pub is_made : IsSome l.enrolment
 
-talk_heard : (at : ℕ) (l : Link) (e : Enrolment) (event : EnrolEvent) (t : Option Talk) (h : _) → option_map (heard_as at l e event) t ≡ Some h → (h.at ≡ at) × (h.link ≡ record l { enrolment = h.link.enrolment })
+talk_heard : (at : ℕ) (l : Link) (e : Enrolment) (event : EnrolEvent) (t : Option Talk) (h : _) → option_map (heard_as at l e event) t ≡ Some h → (h.at ≡ at) × (h.link ≡ record l { enrolment = h.link.enrolment }) × IsSome h.link.enrolment
 talk_heard at l e event None h is = absurd (none-some h is)
-talk_heard at l e event (Some t) h is = subst (λ g. (g.at ≡ at) × (g.link ≡ record l { enrolment = g.link.enrolment })) (same_Some (heard_as at l e event t) h is) (refl, refl)
+talk_heard at l e event (Some t) h is = subst (λ g. (g.at ≡ at) × (g.link ≡ record l { enrolment = g.link.enrolment }) × IsSome g.link.enrolment) (same_Some (heard_as at l e event t) h is) (refl, refl, refl)
 
-link_heard : (at : ℕ) (m : LinkMessage) (replies : List LinkMessage) (event : EnrolEvent) (l : Link) (e : Option Enrolment) (h : _) → heard_by at l m replies event e ≡ Some h → (h.at ≡ at) × (h.link ≡ record l { enrolment = h.link.enrolment })
+link_heard : (at : ℕ) (m : LinkMessage) (replies : List LinkMessage) (event : EnrolEvent) (l : Link) (e : Option Enrolment) (h : _) → heard_by at l m replies event e ≡ Some h → IsSome e × (h.at ≡ at) × (h.link ≡ record l { enrolment = h.link.enrolment }) × IsSome h.link.enrolment
 link_heard at m replies event l None h is = absurd (none-some h is)
-link_heard at m replies event l (Some e) h is = talk_heard at l e event (exchanged e.session m replies) h is
+link_heard at m replies event l (Some e) h is = (let r = talk_heard at l e event (exchanged e.session m replies) h is in (refl, r.0, r.1, r.2))
 
 slot_heard : (links : List Link) (at : ℕ) (m : LinkMessage) (replies : List LinkMessage) (event : EnrolEvent) (o : Option Link) (h : _) → slice_get links at ≡ o → option_and_then (heard_on at m replies event) o ≡ Some h → IsHeard links h.at h.link
 slot_heard links at m replies event None h there is = absurd (none-some h is)
 slot_heard links at m replies event (Some l) h there is =
     let r = link_heard at m replies event l l.enrolment h is in
-    record { old = l; stands = subst (λ (k : ℕ). slice_get links k ≡ Some l) (sym r.0) there; is = r.1 }
+    record { old = l; stands = subst (λ (k : ℕ). slice_get links k ≡ Some l) (sym r.1) there; is = r.2; was_made = r.0; is_made = r.3 }
 
 place_heard : (links : List Link) (m : LinkMessage) (replies : List LinkMessage) (event : EnrolEvent) (place : Option ℕ) (h : _) → heard_at links m replies event place ≡ Some h → IsHeard links h.at h.link
 place_heard links m replies event None h is = absurd (none-some h is)

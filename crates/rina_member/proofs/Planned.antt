@@ -1,37 +1,48 @@
--- What a member of a static DIF has: the live links of the plan, also once one of them is lost, and while it handles messages.
-use Rattle.std.proofs.Common.{◌≡◌, ◌∙◌, ◌⊎◌, inl, inr, ⊎_elim, ℕ, ◌+◌, ◌≤◌, ◌==◌, zero, suc, ltb, Bool, true, false, cond, not, List, [], ◌∷◌, ◌++◌, Option, Some, None, Result, Ok, Contains, length, map, filter, drop, slice_get, slice_set, refl, sym, ap, subst, arith}
-use Rattle.std.specs.Prelude.{find, position, remove}
-use Rattle.std.specs.List.{cons_option, position_or_len}
-use Rattle.std.proofs.lemmas.Bool.{eq-eqb, eqb-true, ltb-false, ne_eqb, true≢false}
-use Rattle.std.proofs.lemmas.List.{append-nil, drop_all, take_all}
-use Rattle.std.proofs.lemmas.Option.{same_Some}
+-- What a member of a static DIF has: the live links of the plan before those that enrolments made, from the start, also once links are made and
+-- lost, and while it handles messages.
+use Rattle.std.proofs.Common.{◌≡◌, ◌∙◌, ⊎_elim, ℕ, ◌+◌, ◌<◌, ◌≤◌, ◌==◌, zero, suc, ltb, Bool, true, false, cond, not, List, [], ◌∷◌, ◌++◌, Option, Some, None, IsSome, is_some, Result, Ok, Contains, length, get_or, map, filter, take, drop, slice_get, slice_set, length-set, refl, sym, ap, subst, arith}
+use Rattle.std.specs.Prelude.{find, option_map, position}
+use Rattle.std.specs.List.{cons_option}
+use Rattle.std.proofs.lemmas.Bool.{cases_Bool, eq-eqb, eqb-true, ltb-false, ltb-true, ne_eqb, true≢false}
+use Rattle.std.proofs.lemmas.List.{append_assoc, append-nil, append_cancel_left, length-append, map-append, take-append-drop, take-append-le, take-set-le, take_all}
+use Rattle.std.proofs.lemmas.List.Elements.{Contains-append_cases, filter-append}
+use Rattle.std.proofs.lemmas.Option.{none-some, same_Some, slice_get-get_or}
+use Rattle.std.proofs.Math.Seq.{take-set-lt}
 use Rattle.rina_graph.specs.declared.graph.Edge.{Edge}
 use Rattle.rina_route.specs.declared.link.Link.{Link as Hop}
-use Rattle.rina_route.proofs.Lists.{contains_filter, contains_map, contains_unmap}
-use Rattle.rina_agent.specs.declared.link.Link.{Link as Managed}
-use Rattle.rina_agent.specs.Agenda.{without_at}
-use Rattle.rina_agent.specs.Enrolments.{is_numbered, place_of}
+use Rattle.rina_route.specs.Routes.{edge}
+use Rattle.rina_route.proofs.Lists.{cases, contains_filter, contains_map, contains_unmap, head, in_none, tail}
+use Rattle.rina_access.specs.declared.rules.Rules.{Rules}
 use Rattle.rina_newest.specs.declared.item.Item.{Item}
-use Rattle.rina_newest.specs.Newest.{is_newer, kept_at}
+use Rattle.rina_newest.specs.Newest.{is_newer, kept_at, taken}
 use Rattle.rina_enrol.specs.declared.message.LinkMessage.{LinkMessage}
 use Rattle.rina_agent.specs.declared.agent.Agent.{Agent}
+use Rattle.rina_agent.specs.declared.enrolment.Enrolment.{Enrolment}
+use Rattle.rina_agent.specs.declared.link.Link.{Link as Managed}
 use Rattle.rina_agent.specs.declared.state.AgentError.{AgentError}
-use Rattle.rina_agent.specs.Counts.{spent, unless}
+use Rattle.rina_agent.specs.declared.state.MemberState.{MemberState}
+use Rattle.rina_agent.specs.declared.state.MemberState.TheVariants.{Outside, Joining, Enrolled, Denied}
+use Rattle.rina_agent.specs.Agenda.{floods, without_at}
+use Rattle.rina_agent.specs.Counts.{next_of, spent, unless}
+use Rattle.rina_agent.specs.Enrolments.{is_numbered, place_of}
 use Rattle.rina_agent.specs.Items.{stated}
-use Rattle.rina_agent.specs.Rows.{dropped, lost, was_up}
+use Rattle.rina_agent.specs.Rows
+use Rattle.rina_agent.specs.Rows.{dropped, joined_link, joining, joining_link, lost, was_up}
 use Rattle.rina_plan.specs.declared.dif.LinkPlan.{LinkPlan}
+use Rattle.rina_data.specs.declared.link.Link.{Link}
 use Rattle.rina_data.specs.declared.settings.Member.{Member}
 use Rattle.rina_member.specs.declared.management.Management.{Management}
-use Rattle.rina_member.specs.Handling.{IsUnenrolled, item_in}
-use Rattle.rina_member.specs.Managements.{Handles}
-use Rattle.rina_member.proofs.Handled.{handles_none, handles_took}
-use Rattle.rina_data.specs.declared.link.Link.{Link}
+use Rattle.rina_member.specs.Knowing.{AreHopsOfPlan, AreNumbered, HasLiveLink, IsPlanned, Knows, hop_of, hops_of, laid_links, live_numbers, made_links, managed_numbers}
+use Rattle.rina_member.specs.Managements.{Handles, claimed}
 use Rattle.rina_member.specs.Routing.{edges_from, live_links, live_of, own_link, own_links}
-use Rattle.rina_member.specs.Start.{managed_link}
-use Rattle.rina_member.specs.Knowing.{AreNumbered, IsPlanned, hops_of}
+use Rattle.rina_member.specs.Start.{managed_link, started}
+use Rattle.rina_member.proofs.ByRows.{IsHeard, KeptStop, PutOr, handled_rows}
+use Rattle.rina_member.proofs.Changing.{link_lives}
 use Rattle.rina_member.proofs.Laying.{own_is}
-use Rattle.rina_member.proofs.Lists.{at_place, both_true, found, keeps_all, made_of, not_found}
-use Rattle.rina_member.proofs.Removing.{gone, is_other, without_is}
+use Rattle.rina_member.proofs.Lists.{at_place, both_true, is_there, keeps_all, kept, made_of, makes}
+use Rattle.rina_member.proofs.Removing.{gone, hop_number, is_other, place_cases, without_is}
+use Rattle.rina_member.proofs.Starting.{all_enrolled, linked_numbers}
+use Rattle.rina_member.proofs.Tells.{from_without}
 
 -- Links of different numbers
 
@@ -55,10 +66,6 @@ leaves number [] apart = refl
 leaves number (h ∷ hs) apart =
     ap (λ (b : Bool). cond b (map managed_link hs) (managed_link h ∷ gone (is_numbered number) (map managed_link hs))) (turn h.number number)
     ∙ leaves_step number h hs (number == h.number) (λ is. others_stay number hs (λ other among same. apart.0 other among (sym (eqb-true number h.number is) ∙ same))) (leaves number hs apart.1)
-
--- the links that are left of live ones
-pub left_links : (number : ℕ) (hops : List Hop) → Apart hops → without_at (place_of number (map managed_link hops)) (map managed_link hops) ≡ map managed_link (filter (is_other number) hops)
-left_links number hops apart = without_is (is_numbered number) (map managed_link hops) ∙ leaves number hops apart
 
 -- The live links, by the places of links
 
@@ -140,40 +147,211 @@ module _ (es : List Edge) where
       → live (slice_set links k (record link { live = false })) ≡ filter (is_other link.number) (live links)
   lost_link links k link numbered is alive = lost_from 0 links k link (λ i l at. (let n = numbered i l at in omega (arith, n))) is alive
 
--- a place that was set, or another
-set_cases : {X : Type 0} (xs : List X) (k i : ℕ) (y x : X) → slice_get (slice_set xs k y) i ≡ Some x → ((i ≡ k) × (y ≡ x)) ⊎ (slice_get xs i ≡ Some x)
-set_cases [] k i y x is = inr is
-set_cases (z ∷ zs) zero zero y x is = inl (refl, same_Some y x is)
-set_cases (z ∷ zs) zero (suc i) y x is = inr is
-set_cases (z ∷ zs) (suc k) zero y x is = inr is
-set_cases (z ∷ zs) (suc k) (suc i) y x is = ⊎_elim (λ both. inl (ap (λ (n : ℕ). suc n) both.0, both.1)) (λ old. inr old) (set_cases zs k i y x is)
-
 pub still_numbered : (links : List Link) (k : ℕ) (link : Link) → AreNumbered links → slice_get links k ≡ Some link → AreNumbered (slice_set links k (record link { live = false }))
 still_numbered links k link numbered is i l at = ⊎_elim
     (λ both. sym (ap (λ (x : Link). x.number) both.1) ∙ numbered k link is ∙ sym both.0)
     (λ old. numbered i l old)
-    (set_cases links k i (record link { live = false }) l at)
+    (place_cases links k i (record link { live = false }) l at)
+
+-- Elements before others
+
+-- where one of the first passes, that one is gone
+front_step : {A : Type 0} (p : A → Bool) (y : A) (xs ys : List A) (b : Bool) → (b ≡ false → gone p (xs ++ ys) ≡ gone p xs ++ ys) → cond b (xs ++ ys) (y ∷ gone p (xs ++ ys)) ≡ cond b xs (y ∷ gone p xs) ++ ys
+front_step p y xs ys true more = refl
+front_step p y xs ys false more = ap (λ zs. y ∷ zs) (more refl)
+
+gone_front : {A : Type 0} (p : A → Bool) (xs ys : List A) (x : A) → Contains xs x → p x ≡ true → gone p (xs ++ ys) ≡ gone p xs ++ ys
+gone_front p [] ys x has passes = absurd (in_none x has)
+gone_front p (y ∷ xs) ys x has passes =
+    ⊎_elim
+    (λ same. ap (λ (b : Bool). cond b (xs ++ ys) (y ∷ gone p (xs ++ ys))) (ap p same ∙ passes) ∙ sym (ap (λ (b : Bool). cond b xs (y ∷ gone p xs) ++ ys) (ap p same ∙ passes)))
+    (λ rest. front_step p y xs ys (p y) (λ fails. gone_front p xs ys x rest passes))
+    (cases y xs x has)
+
+-- where none of them does, the first that passes behind them is
+gone_behind : {A : Type 0} (p : A → Bool) (xs ys : List A) → ((x : A) → Contains xs x → p x ≡ false) → gone p (xs ++ ys) ≡ xs ++ gone p ys
+gone_behind p [] ys fail = refl
+gone_behind p (y ∷ xs) ys fail =
+    ap (λ (b : Bool). cond b (xs ++ ys) (y ∷ gone p (xs ++ ys))) (fail y (head y xs))
+    ∙ ap (λ zs. y ∷ zs) (gone_behind p xs ys (λ x has. fail x (tail y xs x has)))
+
+from_gone : {A : Type 0} (p : A → Bool) (xs : List A) (x : A) → Contains (gone p xs) x → Contains xs x
+from_gone p xs x has = from_without (position p xs) xs x (subst (λ zs. Contains zs x) (sym (without_is p xs)) has)
+
+-- what stands at a place of the first
+taken_at : {X : Type 0} (n : ℕ) (xs : List X) (k : ℕ) → k < n → slice_get (take n xs) k ≡ slice_get xs k
+taken_at zero xs k less = absurd (omega (arith, less))
+taken_at (suc n) [] k less = refl
+taken_at (suc n) (x ∷ xs) zero less = refl
+taken_at (suc n) (x ∷ xs) (suc k) less = taken_at n xs k (omega (arith, less))
+
+from_taken : {X : Type 0} (n : ℕ) (xs : List X) (k : ℕ) (x : X) → slice_get (take n xs) k ≡ Some x → (k < n) × (slice_get xs k ≡ Some x)
+from_taken zero xs k x is = absurd cc
+from_taken (suc n) [] k x is = absurd cc
+from_taken (suc n) (y ∷ xs) zero x is = (omega arith, is)
+from_taken (suc n) (y ∷ xs) (suc k) x is = (let r = from_taken n xs k x is in (omega (arith, r.0), r.1))
+
+-- where nothing stands behind the first, nothing does once one of them is set
+pub still_laid : {X : Type 0} (n : ℕ) (xs : List X) (k : ℕ) (y : X) → drop n xs ≡ [] → drop n (slice_set xs k y) ≡ []
+still_laid zero xs k y none = ap (λ zs. slice_set zs k y) none
+still_laid (suc n) [] k y none = refl
+still_laid (suc n) (x ∷ xs) zero y none = none
+still_laid (suc n) (x ∷ xs) (suc k) y none = still_laid n xs k y none
+
+-- Links that no enrolment made, before those that enrolments made
+
+-- links begin with these, and enrolments made the others
+record Begin (front links : List Managed) : Type 0 where
+  more : List Managed
+  are : links ≡ front ++ more
+  made : (l : Managed) → Contains more l → IsSome l.enrolment
+
+-- no enrolment made one of these
+abbrev AreFree : List Managed → Type 0
+AreFree front = (l : Managed) → Contains front l → l.enrolment ≡ None
+
+-- a link that is set stands behind them where an enrolment made the one before
+set_behind : (front more : List Managed) (at : ℕ) (old l : Managed) → AreFree front → slice_get (front ++ more) at ≡ Some old → IsSome old.enrolment → (i : ℕ) × (slice_set (front ++ more) at l ≡ front ++ slice_set more i l)
+set_behind [] more at old l free stands made = (at, refl)
+set_behind (z ∷ front) more zero old l free stands made =
+    let none : old.enrolment ≡ None = ap (λ (x : Managed). x.enrolment) (sym (same_Some z old stands)) ∙ free z (head z front) in
+    absurd (true≢false (sym made ∙ ap (λ (e : Option Enrolment). is_some e) none))
+set_behind (z ∷ front) more (suc at) old l free stands made =
+    let r = set_behind front more at old l (λ x has. free x (tail z front x has)) stands made in
+    (r.0, ap (λ (ls : List Managed). z ∷ ls) r.1)
+
+all_made : (more : List Managed) (i : ℕ) (l : Managed) → IsSome l.enrolment → ((x : Managed) → Contains more x → IsSome x.enrolment) → (x : Managed) → Contains (slice_set more i l) x → IsSome x.enrolment
+all_made more i l made each x has =
+    ⊎_elim
+    (λ both. subst (λ (z : Managed). IsSome z.enrolment) both.1 made)
+    (λ old. each x (is_there more has.0 x old))
+    (place_cases more i has.0 l x (at_place (slice_set more i l) x has))
+
+-- once a message was heard on a link, they begin with the same
+set_begin : (front links : List Managed) (at : ℕ) (l l' : Managed) → AreFree front → Begin front links → IsHeard links at l → l'.enrolment ≡ l.enrolment → Begin front (slice_set links at l')
+set_begin front links at l l' free b heard same =
+    let r = set_behind front b.more at heard.old l' free (subst (λ (ls : List Managed). slice_get ls at ≡ Some heard.old) b.are heard.stands) heard.was_made in
+    record {
+      more = slice_set b.more r.0 l';
+      are = ap (λ (ls : List Managed). slice_set ls at l') b.are ∙ r.1;
+      made = all_made b.more r.0 l' (subst (λ (e : Option Enrolment). IsSome e) (sym same) heard.is_made) b.made;
+    }
 
 -- Where its links stay, it stays planned
 
 pub planned_links : (members : List Member) (plans : List LinkPlan) (m : Member) (links : List Link) (g g' : Agent) → g'.links ≡ g.links → IsPlanned members plans m links g → IsPlanned members plans m links g'
-planned_links members plans m links g g' same h = record { numbers = h.numbers; links_are = same ∙ h.links_are }
+planned_links members plans m links g g' same h = record { all = h.all; numbers = h.numbers; more = h.more; links_are = same ∙ h.links_are; made = h.made }
 
--- its links that are up are those
+module _ (members : List Member) (plans : List LinkPlan) (m : Member) where
+  abbrev es : List Edge
+  es = edges_from members m.node plans
 
-hops_again : (hops : List Hop) → hops_of (map managed_link hops) ≡ hops
-hops_again [] = refl
-hops_again (h ∷ hops) = ap (λ (hs : List Hop). h ∷ hs) (hops_again hops)
+  -- those of the plan that are live
+  abbrev first_hops : List Link → List Hop
+  first_hops links = live_links members plans m (laid_links members plans m links)
 
-pub planned_hops : (members : List Member) (plans : List LinkPlan) (m : Member) (links : List Link) (g : Agent) → IsPlanned members plans m links g → hops_of g.links ≡ live_links members plans m links
-planned_hops members plans m links g h = ap (λ (ls : List Managed). hops_of ls) h.links_are ∙ hops_again (live_links members plans m links)
+  abbrev firsts : List Link → List Managed
+  firsts links = map managed_link (first_hops links)
 
--- no enrolment made one of them
-pub planned_free : (members : List Member) (plans : List LinkPlan) (m : Member) (links : List Link) (g : Agent) (number : ℕ) → IsPlanned members plans m links g → IsUnenrolled g.links number
-planned_free members plans m links g number h l is =
-    let has = (found (is_numbered number) g.links l is).0 in
-    let r = contains_unmap managed_link (live_links members plans m links) l (subst (λ (ls : List Managed). Contains ls l) h.links_are has) in
-    ap (λ (x : Managed). x.enrolment) (sym r.2)
+  first_free : (links : List Link) → AreFree (firsts links)
+  first_free links l has = (let r = contains_unmap managed_link (first_hops links) l has in ap (λ (x : Managed). x.enrolment) (sym r.2))
+
+  begin_of : (links : List Link) (g : Agent) → IsPlanned members plans m links g → Begin (firsts links) g.links
+  begin_of links g h = record { more = h.more; are = h.links_are; made = h.made }
+
+  planned_of : (links : List Link) (g : Agent) → length es ≤ length links → AreNumbered (laid_links members plans m links) → Begin (firsts links) g.links → IsPlanned members plans m links g
+  planned_of links g all numbers b = record { all = all; numbers = numbers; more = b.more; links_are = b.are; made = b.made }
+
+  -- From the start
+
+  pub starts_planned : (rules : Rules) (links : List Link) → Contains members m → AreNumbered links → length es ≡ length links → IsPlanned members plans m links (started true members plans rules m links)
+  unfolding started
+  starts_planned rules links among numbered count =
+      let laid : laid_links members plans m links ≡ links = take_all (length es) links (omega (arith, count)) in
+      record {
+        all = omega (arith, count);
+        numbers = subst AreNumbered (sym laid) numbered;
+        more = [];
+        links_are =
+            ap (λ (b : Bool). cond b (map managed_link (live_links members plans m links)) []) (all_enrolled members m among)
+            ∙ ap (λ (ls : List Link). map managed_link (live_links members plans m ls)) (sym laid)
+            ∙ sym (append-nil (firsts links));
+        made = λ l has. absurd (in_none l has);
+      }
+
+  -- A new link stands behind
+
+  more_planned : (links : List Link) (g g' : Agent) (link : Link) (l : Managed) → g'.links ≡ g.links ++ l ∷ [] → IsSome l.enrolment → IsPlanned members plans m links g → IsPlanned members plans m (links ++ link ∷ []) g'
+  more_planned links g g' link l is made h =
+      let laid : laid_links members plans m (links ++ link ∷ []) ≡ laid_links members plans m links = take-append-le (length es) links (link ∷ []) h.all in
+      let count = length-append links (link ∷ []) in
+      record {
+        all = omega (arith, h.all, count);
+        numbers = subst AreNumbered (sym laid) h.numbers;
+        more = h.more ++ l ∷ [];
+        links_are =
+            is ∙ ap (λ (ls : List Managed). ls ++ l ∷ []) h.links_are ∙ append_assoc (firsts links) h.more (l ∷ [])
+            ∙ ap (λ (ls : List Link). map managed_link (live_links members plans m ls) ++ (h.more ++ l ∷ [])) (sym laid);
+        made = λ x has. ⊎_elim (λ old. h.made x old) (λ new. ⊎_elim (λ same. subst (λ (z : Managed). IsSome z.enrolment) same made) (λ none. absurd (in_none x none)) (cases l [] x new)) (Contains-append_cases h.more (l ∷ []) x has);
+      }
+
+  pub joins_planned : (links : List Link) (g : Agent) (link : Link) (member node : List ℕ) → IsPlanned members plans m links g → IsPlanned members plans m (links ++ link ∷ []) (joining g link.number member node)
+  joins_planned links g link member node h = more_planned links g (joining g link.number member node) link (joining_link link.number (next_of g.last_invoke) node) refl refl h
+
+  pub claims_planned : (links : List Link) (g : Agent) (link : Link) → IsPlanned members plans m links g → IsPlanned members plans m (links ++ link ∷ []) (claimed g link.number)
+  claims_planned links g link h = more_planned links g (claimed g link.number) link (joined_link link.number) refl refl h
+
+  -- Those that are up
+
+  hops_again : (hops : List Hop) (more : List Managed) → hops_of (map managed_link hops ++ more) ≡ hops ++ hops_of more
+  hops_again [] more = refl
+  hops_again (h ∷ hops) more = ap (λ (hs : List Hop). h ∷ hs) (hops_again hops more)
+
+  module _ (now : ℕ) (links : List Link) (g : Agent) (h : IsPlanned members plans m links g) (knows : Knows now m links g) where
+    -- the further ones have the numbers of the live links that enrolments made
+    first_numbers : managed_numbers (firsts links) ≡ live_numbers (laid_links members plans m links)
+    first_numbers = linked_numbers es (live_of (laid_links members plans m links)) (λ l has.
+        let old = contains_filter (λ (x : Link). x.live) (laid_links members plans m links) l has in
+        let at = at_place (laid_links members plans m links) l old.0 in
+        let number = h.numbers old.0.0 l at in
+        let within = (from_taken (length es) links old.0.0 l at).0 in
+        omega (arith, number, within))
+
+    made_numbers : managed_numbers h.more ≡ live_numbers (made_links members plans m links)
+    made_numbers =
+        let laid : List Link = laid_links members plans m links in
+        let others : List Link = made_links members plans m links in
+        append_cancel_left (live_numbers laid) (managed_numbers h.more) (live_numbers others)
+        (sym (ap (λ (ns : List ℕ). ns ++ managed_numbers h.more) first_numbers)
+        ∙ sym (map-append (λ (l : Managed). l.number) (firsts links) h.more)
+        ∙ sym (ap (λ (ls : List Managed). managed_numbers ls) h.links_are)
+        ∙ knows.numbers
+        ∙ ap (λ (ls : List Link). live_numbers ls) (sym (take-append-drop (length es) links))
+        ∙ ap (λ (ls : List Link). map (λ (l : Link). l.number) ls) (filter-append (λ (l : Link). l.live) laid others)
+        ∙ map-append (λ (l : Link). l.number) (live_of laid) (live_of others))
+
+    pub planned_hops : AreHopsOfPlan members plans m links (hops_of g.links)
+    planned_hops = record {
+      more = hops_of h.more;
+      are = ap (λ (ls : List Managed). hops_of ls) h.links_are ∙ hops_again (first_hops links) h.more;
+      made = λ x has. (
+          let r = made_of hop_of h.more x has in
+          subst (λ (n : ℕ). HasLiveLink (made_links members plans m links) n) (sym (hop_number r.0 x r.2)) (link_lives (made_links members plans m links) h.more r.0 made_numbers r.1));
+    }
+
+  -- where no enrolment made a link, they are the live ones of the plan
+  none_live : (links : List Link) (number : ℕ) → links ≡ [] → HasLiveLink links number → ⊥
+  none_live links number none has = (let there : slice_get [] has.place ≡ Some has.link = ap (λ (ls : List Link). slice_get ls has.place) (sym none) ∙ has.stands in absurd cc)
+
+  none_more : (hops : List Hop) → ((h : Hop) → Contains hops h → ⊥) → hops ≡ []
+  none_more [] none = refl
+  none_more (h ∷ hops) none = absurd (none h (head h hops))
+
+  pub laid_alone : (links : List Link) (hops : List Hop) → AreHopsOfPlan members plans m links hops → made_links members plans m links ≡ [] → hops ≡ live_links members plans m links
+  laid_alone links hops are none =
+      let more : are.more ≡ [] = none_more are.more (λ h has. none_live (made_links members plans m links) h.number none (are.made h has)) in
+      let laid : laid_links members plans m links ≡ links = sym (append-nil (laid_links members plans m links)) ∙ ap (λ (ls : List Link). laid_links members plans m links ++ ls) (sym none) ∙ take-append-drop (length es) links in
+      are.are ∙ ap (λ (hs : List Hop). first_hops links ++ hs) more ∙ append-nil (first_hops links) ∙ ap (λ (ls : List Link). live_links members plans m ls) laid
 
 -- A link is lost
 
@@ -188,29 +366,124 @@ left_by : (b : Bool) (o : Option AgentError) (g g' : Agent) (now number : ℕ) �
 left_by true o g g' now number is = unless_left o (dropped (stated (Some number) g now) number) g' is
 left_by false o g g' now number is = unless_left None (dropped g number) g' is
 
-pub loses_planned : (members : List Member) (plans : List LinkPlan) (now : ℕ) (m : Member) (links : List Link) (g g' : Agent) (k : ℕ) (link : Link) → IsPlanned members plans m links g → slice_get links k ≡ Some link → link.live ≡ true → lost g now link.number ≡ Ok g'
-    → IsPlanned members plans m (slice_set links k (record link { live = false })) g'
-loses_planned members plans now m links g g' k link h stands alive was =
-    let hops : List Hop = live_links members plans m links in
-    record {
-      numbers = still_numbered links k link h.numbers stands;
+left : (now : ℕ) (g g' : Agent) (number : ℕ) → lost g now number ≡ Ok g' → g'.links ≡ gone (is_numbered number) g.links
+left now g g' number was = left_by (was_up (find (is_numbered number) g.links)) (spent 1 g.last_count) g g' now number was ∙ without_is (is_numbered number) g.links
+
+module _ (members : List Member) (plans : List LinkPlan) (now : ℕ) (m : Member) (links : List Link) (g g' : Agent) (k : ℕ) (link : Link) (knows : Knows now m links g) (h : IsPlanned members plans m links g) (stands : slice_get links k ≡ Some link) (alive : link.live ≡ true) (was : lost g now link.number ≡ Ok g') where
+  abbrev edges : List Edge
+  edges = edges_from members m.node plans
+
+  abbrev laid : List Link
+  laid = laid_links members plans m links
+
+  abbrev links' : List Link
+  links' = slice_set links k (record link { live = false })
+
+  all' : length edges ≤ length links'
+  all' = (let same = length-set links k (record link { live = false }) in let all = h.all in omega (arith, same, all))
+
+  left_of : g'.links ≡ gone (is_numbered link.number) (firsts members plans m links ++ h.more)
+  left_of = left now g g' link.number was ∙ ap (λ (ls : List Managed). gone (is_numbered link.number) ls) h.links_are
+
+  -- one of the plan: the first of its number is that of the plan
+  module _ (less : k < length edges) where
+    here : slice_get laid k ≡ Some link
+    here = taken_at (length edges) links k less ∙ stands
+
+    number : link.number ≡ k
+    number = h.numbers k link here
+
+    its_hop : (o : Option Edge) → slice_get edges link.number ≡ o → (x : Hop) × (own_link edges link ≡ Some x)
+    its_hop None is = absurd (none-some (get_or edges link.number (edge 0 0 0)) (sym is ∙ slice_get-get_or edges link.number (edge 0 0 0) (omega (arith, less, number))))
+    its_hop (Some e) is = (record { number = link.number; peer = e.to; weight = e.weight }, ap (option_map (λ (x : Edge). record { number = link.number; peer = x.to; weight = x.weight })) is)
+
+    passes : (x : Managed) × Contains (firsts members plans m links) x × (is_numbered link.number x ≡ true)
+    passes =
+        let hop = its_hop (slice_get edges link.number) refl in
+        let among = kept (λ (l : Link). l.live) laid link (is_there laid k link here) alive in
+        let has = makes (own_link edges) (live_of laid) link hop.0 among hop.1 in
+        (managed_link hop.0, contains_map managed_link (first_hops members plans m links) hop.0 has, eq-eqb hop.0.number link.number (same_number edges link hop.0 hop.1))
+
+    laid_is : laid_links members plans m links' ≡ slice_set laid k (record link { live = false })
+    laid_is = take-set-lt (length edges) links k (record link { live = false }) less
+
+    loses_laid : IsPlanned members plans m links' g'
+    loses_laid = record {
+      all = all';
+      numbers = subst AreNumbered (sym laid_is) (still_numbered laid k link h.numbers here);
+      more = h.more;
       links_are =
-          left_by (was_up (find (is_numbered link.number) g.links)) (spent 1 g.last_count) g g' now link.number was
-          ∙ ap (λ (ls : List Managed). without_at (place_of link.number ls) ls) h.links_are
-          ∙ left_links link.number hops (apart_links (edges_from members m.node plans) links h.numbers)
-          ∙ ap (λ (hs : List Hop). map managed_link hs) (sym (lost_link (edges_from members m.node plans) links k link h.numbers stands alive));
+          left_of
+          ∙ gone_front (is_numbered link.number) (firsts members plans m links) h.more passes.0 passes.1 passes.2
+          ∙ ap (λ (ls : List Managed). ls ++ h.more)
+          (leaves link.number (first_hops members plans m links) (apart_links edges laid h.numbers)
+          ∙ ap (λ (hs : List Hop). map managed_link hs) (sym (lost_link edges laid k link h.numbers here alive))
+          ∙ ap (λ (ls : List Link). map managed_link (live_links members plans m ls)) (sym laid_is));
+      made = h.made;
     }
+
+  -- one that an enrolment made: no live link of the plan has its number
+  module _ (past : length edges ≤ k) where
+    other : (x : Managed) → Contains (firsts members plans m links) x → is_numbered link.number x ≡ false
+    other x has =
+        let r = contains_unmap managed_link (first_hops members plans m links) x has in
+        let s = made_of (own_link edges) (live_of laid) r.0 r.1 in
+        let t = contains_filter (λ (l : Link). l.live) laid s.0 s.1 in
+        let at = from_taken (length edges) links t.0.0 s.0 (at_place laid s.0 t.0) in
+        ne_eqb x.number link.number (λ same.
+        let place = knows.apart t.0.0 k s.0 link at.1 stands t.1 alive (sym (same_number edges s.0 r.0 s.2) ∙ ap (λ (z : Managed). z.number) r.2 ∙ same) in
+        let within = at.0 in
+        omega (arith, place, within, past))
+
+    laid_stays : laid_links members plans m links' ≡ laid
+    laid_stays = take-set-le (length edges) links k (record link { live = false }) past
+
+    loses_made : IsPlanned members plans m links' g'
+    loses_made = record {
+      all = all';
+      numbers = subst AreNumbered (sym laid_stays) h.numbers;
+      more = gone (is_numbered link.number) h.more;
+      links_are =
+          left_of
+          ∙ gone_behind (is_numbered link.number) (firsts members plans m links) h.more other
+          ∙ ap (λ (ls : List Link). map managed_link (live_links members plans m ls) ++ gone (is_numbered link.number) h.more) (sym laid_stays);
+      made = λ l has. h.made l (from_gone (is_numbered link.number) h.more l has);
+    }
+
+  pub loses_planned : IsPlanned members plans m links' g'
+  loses_planned = ⊎_elim (λ less. loses_laid (ltb-true k (length edges) less)) (λ past. loses_made (ltb-false k (length edges) past)) (cases_Bool (ltb k (length edges)))
 
 -- A message is handled
 
-took_links : (b : Bool) (a x : Agent) → x.links ≡ a.links → (cond b x a).links ≡ a.links
-took_links true a x same = same
-took_links false a x same = refl
+module _ (front : List Managed) (free : AreFree front) where
+  abbrev Begins : Agent → Type 0
+  Begins a = Begin front a.links
 
-handles_by : (now link : ℕ) (message : LinkMessage) (o : Option Item) (m m' : Management) → item_in message ≡ o → IsUnenrolled m.agent.links link → Handles now link message m m' → m'.agent.links ≡ m.agent.links
-handles_by now link message None m m' is free h = ap (λ (g : Management). g.agent.links) (handles_none now link message m m' free is h)
-handles_by now link message (Some item) m m' is free h = ap (λ (a : Agent). a.links) (handles_took now link message item m m' is h) ∙ took_links (is_newer item.version (kept_at m.agent.items item.key)) m.agent _ refl
+  took_begins : (newer : Bool) (k : ℕ) (a : Agent) (item : Item) → Begins a → Begins (cond newer (record a { items = taken a.items item; agenda = a.agenda ++ floods (Some k) item a.links }) a)
+  took_begins true k a item b = b
+  took_begins false k a item b = b
+
+  introduced_links : (s : MemberState) (a : Agent) (now : ℕ) → (Rows.introduced_in s a now).links ≡ a.links
+  introduced_links Outside a now = refl
+  introduced_links (Joining link) a now = refl
+  introduced_links Enrolled a now = refl
+  introduced_links (Denied rule) a now = refl
+
+  stops : (a : Agent) (now : ℕ) → Begins a → KeptStop Begins a now
+  stops a now b at l invoke heard may =
+      let peer : Option ℕ = Rows.peer_by l.enrolment (Rows.introduced a now).items in
+      subst (λ (ls : List Managed). Begin front (slice_set ls at (Rows.up_link peer l))) (sym (introduced_links a.state a now)) (set_begin front a.links at l (Rows.up_link peer l) free b heard refl)
+
+  handles_begins : (now k : ℕ) (message : LinkMessage) (a : Agent) → Begins a → PutOr Begins (Rows.handled a now k message)
+  handles_begins now k message a b = handled_rows Begins a now k message b
+      (λ at l state invoke agenda heard stays adds. set_begin front a.links at l l free b heard refl)
+      (λ at l invoke address heard same may. set_begin front a.links at l (Rows.up_link (Some address) l) free b heard refl)
+      (stops a now b)
+      (λ item same. took_begins (is_newer item.version (kept_at a.items item.key)) k a item b)
 
 pub handles_planned : (members : List Member) (plans : List LinkPlan) (m : Member) (links : List Link) (now number : ℕ) (message : LinkMessage) (old new : Management) → Handles now number message old new → IsPlanned members plans m links old.agent → IsPlanned members plans m links new.agent
 handles_planned members plans m links now number message old new handles h =
-    planned_links members plans m links old.agent new.agent (handles_by now number message (item_in message) old new refl (planned_free members plans m links old.agent number h) handles) h
+    let front : List Managed = firsts members plans m links in
+    planned_of members plans m links new.agent h.all h.numbers
+    (subst (λ (r : Result Agent AgentError). PutOr (λ a. Begin front a.links) r) handles.handles
+    (handles_begins front (first_free members plans m links) now number message old.agent (begin_of members plans m links old.agent h)))

@@ -39,7 +39,7 @@ linked_step es link ns hs None is within rest = absurd (none-some (get_or es lin
 linked_step es link ns hs (Some e) is within rest = ap (λ (xs : List ℕ). link.number ∷ xs) rest
 
 -- where each link has an edge, the management has one of its number
-linked_numbers : (es : List Edge) (links : List Link) → ((l : Link) → Contains links l → l.number < length es) → managed_numbers (map managed_link (own_links es links)) ≡ map (λ (l : Link). l.number) links
+pub linked_numbers : (es : List Edge) (links : List Link) → ((l : Link) → Contains links l → l.number < length es) → managed_numbers (map managed_link (own_links es links)) ≡ map (λ (l : Link). l.number) links
 linked_numbers es [] within = refl
 linked_numbers es (l ∷ links) within =
     linked_step es l (map (λ (x : Link). x.number) links) (own_links es links) (slice_get es l.number) refl (within l (head l links)) (linked_numbers es links (λ x has. within x (tail l links x has)))

@@ -1,5 +1,5 @@
 -- What the management of a member of a DIF knows, and the next hops over the items that it holds.
-use Rattle.std.specs.Prelude.{◌≡◌, ℕ, ◌^◌, ◌<◌, ◌≤◌, ◌↔◌, ◌⊎◌, true, List, All, Contains, flat_map, map, slice_get, Option, Some, None, option_map, if◌then◌else◌}
+use Rattle.std.specs.Prelude.{◌≡◌, ℕ, ◌^◌, ◌<◌, ◌≤◌, ◌↔◌, ◌⊎◌, true, List, ◌++◌, All, Contains, drop, flat_map, length, map, slice_get, take, Option, Some, None, IsSome, option_map, if◌then◌else◌}
 use Rattle.std.specs.List.{filter_map}
 use Rattle.rina_graph.specs.declared.graph.Edge.{Edge}
 use Rattle.rina_newest.specs.declared.item.Item.{Item}
@@ -15,7 +15,7 @@ use Rattle.rina_plan.specs.Kept.{AreApart}
 use Rattle.rina_data.specs.declared.link.Link.{Link}
 use Rattle.rina_data.specs.declared.link.Route.{Route}
 use Rattle.rina_data.specs.declared.settings.Member.{Member}
-use Rattle.rina_member.specs.Routing.{AreRoutesOver, edge_to, live_links, live_of}
+use Rattle.rina_member.specs.Routing.{AreRoutesOver, edge_to, edges_from, live_links, live_of}
 use Rattle.rina_member.specs.Short.{IsLinkInRange}
 use Rattle.rina_member.specs.Start.{managed_link}
 
@@ -113,7 +113,28 @@ pub record HasLiveLink (links : List Link) (number : ℕ) : Type 0 where
   pub live : link.live ≡ true
   pub is_number : link.number ≡ number
 
--- a member of a static DIF has the live links of the plan, with their neighbours and weights, and its links are numbered by their places
+-- In a static DIF
+
+-- the links of the plan among those of an IPC process: the first ones. Links that enrolments made stand behind them
+abbrev pub laid_links : List Member → List LinkPlan → Member → List Link → List Link
+laid_links members plans m links = take (length (edges_from members m.node plans)) links
+
+-- these are the links that enrolments made
+abbrev pub made_links : List Member → List LinkPlan → Member → List Link → List Link
+made_links members plans m links = drop (length (edges_from members m.node plans)) links
+
+-- a member of a static DIF has the live links of the plan, with their neighbours and weights, and behind them those that enrolments made. Each
+-- link of the plan is there, live or lost, and these are numbered by their places
 pub record IsPlanned (members : List Member) (plans : List LinkPlan) (m : Member) (links : List Link) (g : Agent) : Type 0 where
-  pub numbers : AreNumbered links
-  pub links_are : g.links ≡ map managed_link (live_links members plans m links)
+  pub all : length (edges_from members m.node plans) ≤ length links
+  pub numbers : AreNumbered (laid_links members plans m links)
+  pub more : List Managed
+  pub links_are : g.links ≡ map managed_link (live_links members plans m (laid_links members plans m links)) ++ more
+  pub made : (l : Managed) → Contains more l → IsSome l.enrolment
+
+-- the links over which PDUs may leave a member of a static DIF are, first, the live ones of the plan, with their neighbours and weights; each of
+-- those behind them has the number of a live link that an enrolment made
+pub record AreHopsOfPlan (members : List Member) (plans : List LinkPlan) (m : Member) (links : List Link) (hops : List Hop) : Type 0 where
+  pub more : List Hop
+  pub are : hops ≡ live_links members plans m (laid_links members plans m links) ++ more
+  pub made : (h : Hop) → Contains more h → HasLiveLink (made_links members plans m links) h.number

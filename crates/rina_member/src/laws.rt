@@ -9,6 +9,7 @@ ghost use Rattle.rina_newest.specs.declared.item.Item.{Item};
 ghost use Rattle.rina_enrol.specs.declared.message.LinkMessage.{LinkMessage};
 ghost use Rattle.rina_enrol.specs.Items.{CarriesReplicated};
 ghost use Rattle.rina_enrol.specs.Messages.{IsInRange};
+ghost use Rattle.rina_route.specs.declared.link.Link.{Link as Hop};
 ghost use Rattle.rina_agent.specs.declared.agent.Agent.{Agent};
 ghost use Rattle.rina_agent.specs.declared.message.ManagementMessage.TheVariants.{ToNeighbour};
 ghost use Rattle.rina_agent.specs.declared.state.AgentError.TheVariants.{CountSpent};
@@ -24,7 +25,7 @@ ghost use Rattle.rina_data.specs.Process.{next_hop};
 ghost use Rattle.rina_plan.specs.declared.dif.LinkPlan.{LinkPlan};
 ghost use Rattle.rina_member.specs.declared.management.Management.{Management};
 ghost use Rattle.rina_member.specs.Handling.{BringsItemName, IsSameMember, IsUnenrolled, KeepsOthers, KeepsOutsideItems, OwnIsNewest, TakesNews, item_in};
-ghost use Rattle.rina_member.specs.Knowing.{AreLive, AreNumbered, AreRoutesOf, HasLiveLink, IsFreeNumber, IsLaidOut, IsPlanned, KeepsOtherClaims, Knows, SameEdges, all_claims, hops_of};
+ghost use Rattle.rina_member.specs.Knowing.{AreHopsOfPlan, AreLive, AreNumbered, AreRoutesOf, HasLiveLink, IsFreeNumber, IsLaidOut, IsPlanned, KeepsOtherClaims, Knows, SameEdges, all_claims, hops_of, made_links};
 ghost use Rattle.rina_member.specs.Managements.{Handles, HandlesSdu, IsNews, IsSdu, LosesLink, MakesEntry, claimed, entered, entry_of, is_news, keys_brought, takes_item, with_sent};
 ghost use Rattle.rina_member.specs.Routing.{AreRoutesOver, edges_from, edges_of, live_links, live_of};
 ghost use Rattle.rina_member.specs.Short.{AreNamed, HaveFewLinks, IsShort, TellsNeighbours};
@@ -104,10 +105,15 @@ pub fn a_member_knows_its_links()
     ensures count { (now : ℕ) (m : Member) (links : List Link) (g : Agent) → Knows now m links g → length g.links ≡ length (live_of links) }
 {}
 
-/// A member of a static DIF has the live links of the plan from the start, with their neighbours and weights, and goes on to have them when
-/// it loses a link and handles a message. Its links that are up are those.
+/// A member of a static DIF has the live links of the plan from the start, with their neighbours and weights, before those that enrolments
+/// made. So it goes on when it gets a link or asks for an enrolment on a new one, loses a link, and handles a message.
 pub fn a_member_of_a_static_dif_keeps_the_plan()
-    ensures loses { (members : List Member) (plans : List LinkPlan) (now : ℕ) (m : Member) (links : List Link) (g g' : Agent) (k : ℕ) (link : Link) → IsPlanned members plans m links g → slice_get links k ≡ Some link → link.live ≡ true → lost g now link.number ≡ Ok g' → IsPlanned members plans m (slice_set links k (record link { live = false })) g' }
+    ensures starts { (members : List Member) (plans : List LinkPlan) (rules : Rules) (m : Member) (links : List Link) → Contains members m → AreNumbered links → length (edges_from members m.node plans) ≡ length links → IsPlanned members plans m links (started true members plans rules m links) }
+    ensures joins { (members : List Member) (plans : List LinkPlan) (m : Member) (links : List Link) (g : Agent) (link : Link) (member node : List ℕ) → IsPlanned members plans m links g → IsPlanned members plans m (links ++ link ∷ []) (joining g link.number member node) }
+    ensures claims { (members : List Member) (plans : List LinkPlan) (m : Member) (links : List Link) (g : Agent) (link : Link) → IsPlanned members plans m links g → IsPlanned members plans m (links ++ link ∷ []) (claimed g link.number) }
+    ensures loses { (members : List Member) (plans : List LinkPlan) (now : ℕ) (m : Member) (links : List Link) (g g' : Agent) (k : ℕ) (link : Link) → Knows now m links g → IsPlanned members plans m links g → slice_get links k ≡ Some link → link.live ≡ true → lost g now link.number ≡ Ok g' → IsPlanned members plans m (slice_set links k (record link { live = false })) g' }
     ensures handles { (members : List Member) (plans : List LinkPlan) (now number : ℕ) (m : Member) (links : List Link) (message : LinkMessage) (old new : Management) → IsPlanned members plans m links old.agent → Handles now number message old new → IsPlanned members plans m links new.agent }
-    ensures up { (members : List Member) (plans : List LinkPlan) (m : Member) (links : List Link) (g : Agent) → IsPlanned members plans m links g → hops_of g.links ≡ live_links members plans m links }
+    // Of its links that are up the first are the live ones of the plan, and each other one is live. Where no enrolment made a link, there are no others.
+    ensures up { (members : List Member) (plans : List LinkPlan) (m : Member) (now : ℕ) (links : List Link) (g : Agent) → IsPlanned members plans m links g → Knows now m links g → AreHopsOfPlan members plans m links (hops_of g.links) }
+    ensures alone { (members : List Member) (plans : List LinkPlan) (m : Member) (links : List Link) (hops : List Hop) → AreHopsOfPlan members plans m links hops → made_links members plans m links ≡ [] → hops ≡ live_links members plans m links }
 {}
