@@ -121,7 +121,7 @@ last_left left left' left2 r r' r2 r3 r4 line line2 s e d some same_held same_ro
 breaks_on : (e : ReadError) (room first read read' behind : ℕ) → room + first ≡ read → Breaks e room read' behind → Breaks e read (first + read') behind
 breaks_on errors.Fault room first read read' behind is b = (b.0, omega (arith, b.1))
 breaks_on errors.TooLarge room first read read' behind is b = (b.0, omega (arith, b.1))
-breaks_on errors.Memory room first read read' behind is b = omega arith
+breaks_on errors.Memory room first read read' behind is b = (b.0, omega (arith, b.1))
 
 -- the next bytes could not be read
 pub cut_off : (e : ReadError) (left left' left2 : Option (List ℕ)) (r r' r2 : Reader) (line line2 : List ℕ) → SoFar left left' r r' line → IsEmptied r' line r2 line2 → IsCutOff e left' left2 r2 → IsCutOff e left left2 r
@@ -148,6 +148,6 @@ no_memory left left' r r' line s some = record {
   consumed = s.consumed;
   bytes = s.bytes;
   unended = s.unended;
-  breaks = omega (arith, s.room);
+  breaks = (s.few, omega (arith, s.room));
   kept = λ is. omega (arith, some);
 }

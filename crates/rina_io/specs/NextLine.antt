@@ -47,11 +47,12 @@ pub record IsOver (left left' : Option (List ℕ)) (r r' : Reader) : Type 0 wher
   pub over : r'.over ≡ true
   pub sound : IsSound left' r'
 
--- how many bytes were read, where so many more were allowed, and how many of them stand behind the part of a line
+-- how many bytes were read, where so many more were allowed, and how many of them stand behind the part of a line; where memory ran out, these are what one read
+-- gave at most
 abbrev pub Breaks : ReadError → ℕ → ℕ → ℕ → Type 0
 Breaks errors.Fault room read behind = (behind ≡ 0) × (read ≤ room)
 Breaks errors.TooLarge room read behind = (behind ≡ 1) × (read ≡ room + 1)
-Breaks errors.Memory room read behind = read ≤ room
+Breaks errors.Memory room read behind = (behind ≤ 4096) × (read ≤ room)
 
 -- the next line could not be read: only a part of it was, which has no end; memory ran out only where a byte was to be kept
 pub record IsCutOff (e : ReadError) (left left' : Option (List ℕ)) (r : Reader) : Type 0 where

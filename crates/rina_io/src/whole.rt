@@ -1,5 +1,5 @@
 //! Reading all of a source, and writing all of a piece.
-ghost use Rattle.std.specs.Prelude.{◌≡◌, ◌<◌, ◌≤◌, ◌++◌, ℕ, List, not, length, take, OnOk, OnErr};
+ghost use Rattle.std.specs.Prelude.{◌≡◌, ◌+◌, ◌<◌, ◌≤◌, ◌++◌, ℕ, List, not, length, take, OnOk, OnErr};
 ghost use Rattle.std.specs.Io.KnownBytes.{Appends, Consumes, IsAtEnd};
 ghost use Rattle.rina_io.specs.Causes.{one_more, Rose, HasCause, Turns};
 
@@ -62,8 +62,10 @@ fn ended(bytes: Vec<u8>, ending: Ending) -> Taken
 /// fails. A read that fails is counted as a fault, and no other.
 pub fn take_all<S: Source>(alloc: Global, source: &mut S) -> Taken
     ensures bytes { ¬ (result.ending ≡ Ending.Memory) → Consumes (S.left source.old) (S.left source.new) result.bytes.items }
-    // Without memory these bytes were read, and at least one more.
-    ensures memory { result.ending ≡ Ending.Memory → (more : List ℕ) × (0 < length more) × Consumes (S.left source.old) (S.left source.new) (result.bytes.items ++ more) }
+    // Without memory these bytes were read, and what one read gave behind them.
+    ensures memory { result.ending ≡ Ending.Memory → (more : List ℕ) × (0 < length more) × Consumes (S.left source.old) (S.left source.new) (result.bytes.items ++ more) × (length more ≤ 16384) }
+    // Beyond the limit no read is made.
+    ensures few { length result.bytes.items ≤ LIMIT + 16384 }
     ensures whole { result.ending ≡ Ending.Whole → IsAtEnd (S.left source.new) × (length result.bytes.items ≤ LIMIT) }
     ensures large { result.ending ≡ Ending.TooLarge → LIMIT < length result.bytes.items }
     ensures fault { result.ending ≡ Ending.Fault → Rose (S.faults source.old) (S.faults source.new) × (length result.bytes.items ≤ LIMIT) }

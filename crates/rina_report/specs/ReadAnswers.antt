@@ -1,5 +1,5 @@
 -- Reading answers, whose word is field 0.
-use Rattle.std.specs.Prelude.{ℕ, ◌+◌, List, [], ◌∷◌, codes, Option, Some, None, Result, Ok, Err, if◌then◌else◌}
+use Rattle.std.specs.Prelude.{ℕ, ◌+◌, ◌||◌, Bool, List, [], ◌∷◌, codes, Option, Some, None, Result, Ok, Err, if◌then◌else◌}
 use Rattle.std.specs.Str.{bytes_eq}
 use Rattle.rina_base.specs.Traverse.{◌>>=◌}
 use Rattle.rina_base.specs.declared.number.Num.{Num}
@@ -141,3 +141,15 @@ answer_at word fs =
     else (if bytes_eq word (codes "no") then (refusal_at 1 fs >>= λ why. Ok (answers.Refused why))
     else (if bytes_eq word (codes "state") then label_at 1 fs
     else step_word_at word fs)))))
+
+-- the word is one of a group behind which names or bytes may be copied: of those about journals and RIBs
+unfoldable pub journal_word_copies : List ℕ → Bool
+journal_word_copies word = bytes_eq word (codes "cdap") || bytes_eq word (codes "obj") || bytes_eq word (codes "flow") || bytes_eq word (codes "s") || bytes_eq word (codes "g")
+
+-- of these, or of those about steps; behind `idle` nothing is
+unfoldable pub step_word_copies : List ℕ → Bool
+step_word_copies word = bytes_eq word (codes "in") || bytes_eq word (codes "out") || bytes_eq word (codes "held") || bytes_eq word (codes "clock") || bytes_eq word (codes "off") || journal_word_copies word
+
+-- of all words of answers; behind `none` and `sent` nothing is copied, nor behind a word that no answer has
+unfoldable pub answer_copies : List ℕ → Bool
+answer_copies word = bytes_eq word (codes "ok") || bytes_eq word (codes "got") || bytes_eq word (codes "no") || bytes_eq word (codes "state") || step_word_copies word

@@ -1,5 +1,5 @@
 -- Reading notes. The word of a note that begins with two numbers is the field after them.
-use Rattle.std.specs.Prelude.{ℕ, ◌+◌, ◌<◌, length, IsSome, List, [], ◌∷◌, codes, Result, Ok, Err, if◌then◌else◌}
+use Rattle.std.specs.Prelude.{◌≡◌, ℕ, ◌+◌, ◌<◌, true, length, slice_get, IsSome, IsSomeAnd, List, [], ◌∷◌, codes, Result, Ok, Err, if◌then◌else◌}
 use Rattle.std.specs.Str.{bytes_eq}
 use Rattle.rina_base.specs.Traverse.{◌>>=◌}
 use Rattle.rina_schedule.specs.declared.error.LineError.{LineError}
@@ -10,7 +10,7 @@ use Rattle.rina_report.specs.declared.note.Fault.TheVariants as faults
 use Rattle.rina_report.specs.declared.note.Note.{Note}
 use Rattle.rina_report.specs.declared.note.Note.TheVariants as notes
 use Rattle.rina_report.specs.Fields.{fields_of, max32, numeral_of, field_at, end_at, number_at, word_at, last_number_at, last_two_at}
-use Rattle.rina_report.specs.ReadAnswers.{answer_at}
+use Rattle.rina_report.specs.ReadAnswers.{answer_at, answer_copies}
 
 -- LINE N FIELD
 unfoldable pub schedule_at : ℕ → List (List ℕ) → Result Fault LineError
@@ -100,3 +100,7 @@ note_at text = fields_note (fields_of text)
 abbrev pub TellsLine : List (List ℕ) → Type 0
 TellsLine [] = ⊥
 TellsLine (line ∷ fs) = IsSome (numeral_of max32 line) × (2 < length fs)
+
+-- the word of the answer, behind the number of the line and the tick, is one behind which names or bytes may be copied
+abbrev pub HasCopyingAnswer : List (List ℕ) → Type 0
+HasCopyingAnswer fs = IsSomeAnd (slice_get fs 2) (λ word. answer_copies word ≡ true)

@@ -129,7 +129,8 @@ bad_from plan ending lines start told t u tower shelf' s bad ran left after name
 
 -- the run was stopped
 pub stop_from : (plan : Plan) (ending : Ending) (lines : List (List ℕ)) (start : Stage) (t : List Note) (u : Stage) (tower : Option Tower) (shelf' : List Slot) (stop : Stop) → LinesRan plan start ending lines t u (Err stop) → tower ≡ Some u.run.tower → shelf' ≡ u.shelf → HasNames start.shelf shelf' → PlayOutcomes plan ending lines start (status_stopped stop) t tower shelf'
-stop_from plan ending lines start t u tower shelf' stops.Memory ran left after names = inl (record { unbroken = ran.0; reached = ran.1; first = ran.2; names = names })
+stop_from plan ending lines start t u tower shelf' stops.Memory (inl ran) left after names = inl (record { fine = ran.0; reached = ran.1; first = ran.2; names = names })
+stop_from plan ending lines start t u tower shelf' stops.Memory (inr ran) left after names = inr (record { reached = u; stopped = inl ran.1; left = left; after = after })
 stop_from plan ending lines start t u tower shelf' stops.WriteFault ran left after names = record { reached = u; stopped = inl ran; left = left; after = after }
 
 -- a stack that is no TOML, or breaks a rule

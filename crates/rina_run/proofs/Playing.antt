@@ -13,7 +13,7 @@ use Rattle.rina_words.specs.Built.{event_at}
 use Rattle.rina_notes.specs.Look.{Leads, Extends}
 use Rattle.rina_words.specs.Step.{Stage, Steps}
 use Rattle.rina_io.specs.Reader.{Reader}
-use Rattle.rina_run.specs.Reading.{Broken, Ending, Enough, IsFine, IsUnbroken, Lost, Whole}
+use Rattle.rina_run.specs.Reading.{Ending, IsFine}
 use Rattle.rina_run.specs.Run.{Asks, LineDoes, LineRan, LinesRan, IsBad, Ran, RanFirst, Runs, StopsAt}
 use Rattle.rina_run.proofs.ReadOn.{ReadSoFar, none_so_far}
 
@@ -34,7 +34,7 @@ module _ {X : Type 0} where
   last_is (z ∷ zs) x y at = last_is zs x y at
 
 -- all lines were run
-pub all_ran : (plan : Plan) (w : Stage) (lines : List (List ℕ)) (told : List Note) (u : Stage) → Runs plan 1 w lines told u → RanFirst plan w lines told u
+all_ran : (plan : Plan) (w : Stage) (lines : List (List ℕ)) (told : List Note) (u : Stage) → Runs plan 1 w lines told u → RanFirst plan w lines told u
 all_ran plan w lines told u runs = record { count = length lines; most = omega arith; runs = rw (take_all (length lines) lines (omega arith)) runs; asks = λ line at. absurd (none_behind lines line at) }
 
 -- the line of this number follows those that were run
@@ -110,17 +110,11 @@ memory_in plan w u v ls line text number ns after number_is text_is runs asks (i
     (u, record { count = length (texts_of ls); most = most; runs = rw (same, front) runs; asks = λ l at. subst Asks (last l at) asks })
 memory_in plan w u v ls line text number ns after number_is text_is runs asks (inr leads) = (v, all_ran plan w (texts_of (ls ++ line ∷ [])) after v (runs_line plan w u v ls line text number ns after number_is text_is runs leads))
 
-unbroken : (ending : Ending) → IsFine ending → IsUnbroken ending
-unbroken Whole fine = tt
-unbroken Enough fine = tt
-unbroken (Broken fault) fine = fine
-unbroken Lost fine = absurd fine
-
 -- the run stopped in the next line
 pub stopped_in : (plan : Plan) (w u v : Stage) (ls : List (List ℕ)) (line text : List ℕ) (number : ℕ) (ns after : List Note) (e : Stop) (ending : Ending) → number ≡ length ls → text ≡ without_terminator line → Runs plan 1 w (texts_of ls) ns u → LineRan plan (number + 1) text u ns v after (Err e) → IsFine ending → LinesRan plan w ending (texts_of (ls ++ line ∷ [])) after v (Err e)
 stopped_in plan w u v ls line text number ns after stops.Memory ending number_is text_is runs ran fine =
     let m = memory_in plan w u v ls line text number ns after number_is text_is runs ran.0 ran.1 in
-    (unbroken ending fine, m.0, m.1)
+    inl (fine, m.0, m.1)
 stopped_in plan w u v ls line text number ns after stops.WriteFault ending number_is text_is runs ran fine = (fine, runs_line plan w u v ls line text number ns after number_is text_is runs ran)
 
 pub front_push : (old new : List Note) (note : Note) → new ≡ old ++ note ∷ [] → take (length old) new ≡ old

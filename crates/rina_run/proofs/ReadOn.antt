@@ -208,7 +208,7 @@ read_lost left0 left left' r lines h over c = record {
   read = record {
     bytes = h.read ++ c.read;
     read = Consumes-trans left0 left left' h.read c.read h.consumed c.consumed;
-    ended = (c.behind, all_bytes left0 left r lines h c.read c.part c.behind c.bytes);
+    ended = (omega (arith, h.room, c.breaks.1, length-append h.read c.read), c.behind, c.breaks.0, all_bytes left0 left r lines h c.read c.part c.behind c.bytes);
   };
   are = lines_part lines c.part h.are (h.ended over) c.unended;
 }

@@ -35,11 +35,6 @@ IsFine (Broken fault) = ⊥
 IsFine Enough = Unit {0}
 IsFine Lost = ⊥
 
--- reading was not broken off by a fault
-abbrev pub IsUnbroken : Ending → Type 0
-IsUnbroken (Broken fault) = ⊥
-IsUnbroken ending = Unit {0}
-
 abbrev pub joined : List (List ℕ) → List ℕ
 joined lines = flat_map (λ l. l) lines
 
@@ -50,14 +45,14 @@ pub record IsEnough (bytes used : List ℕ) : Type 0 where
   pub few : length behind ≤ 4096
   pub are : bytes ≡ used ++ behind
 
--- which of the bytes that were read are used, by how reading ended
+-- which of the bytes that were read are used, by how reading ended; without memory all are but for what one read gave at most
 abbrev pub EndedBy : Ending → Option (List ℕ) → List ℕ → List ℕ → Type 0
 EndedBy Whole left bytes used = IsAtEnd left × (length bytes ≤ 16777216) × (used ≡ bytes)
 EndedBy (Broken faults.TooLarge) left bytes used = (16777216 < length bytes) × (used ≡ take 16777216 bytes)
 EndedBy (Broken faults.ReadFault) left bytes used = (length bytes ≤ 16777216) × (used ≡ bytes)
 EndedBy (Broken fault) left bytes used = ⊥
 EndedBy Enough left bytes used = IsEnough bytes used
-EndedBy Lost left bytes used = (behind : List ℕ) × (bytes ≡ used ++ behind)
+EndedBy Lost left bytes used = (length bytes ≤ 16777216) × (behind : List ℕ) × (length behind ≤ 4096) × (bytes ≡ used ++ behind)
 
 -- these bytes were read, reading ended so, and these of them are used
 pub record IsReadTo (left left' : Option (List ℕ)) (ending : Ending) (used : List ℕ) : Type 0 where

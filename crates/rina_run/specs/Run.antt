@@ -10,7 +10,7 @@ use Rattle.rina_run.specs.declared.output.Stop.TheVariants as stops
 use Rattle.rina_run.specs.declared.lines.BadLine.{BadLine}
 use Rattle.rina_run.specs.declared.lines.Close.{Close}
 use Rattle.rina_run.specs.declared.lines.Close.TheVariants as closes
-use Rattle.rina_run.specs.Reading.{Broken, Ending, IsFine, IsUnbroken, Whole}
+use Rattle.rina_run.specs.Reading.{Broken, Ending, IsFine, Lost, Whole}
 use Rattle.rina_notes.specs.Look.{Leads}
 use Rattle.rina_words.specs.Step.{Stage, Steps}
 
@@ -64,10 +64,11 @@ pub record StopsAt (plan : Plan) (s : Stage) (lines : List (List ℕ)) (bad : Ba
   pub read : event_at line ≡ Err bad.error
   pub runs : Runs plan 1 s before trace s'
 
--- what is known after lines were run, by how reading them ended; a line that ends the run is the last that was read; memory ran out in a line, or for reading the next one
+-- what is known after lines were run, by how reading them ended; a line that ends the run is the last that was read; memory ran out in that line, or for
+-- reading the next one, and then all lines were run
 abbrev pub LinesRan : Plan → Stage → Ending → List (List ℕ) → List Note → Stage → Result Close Stop → Type 0
 LinesRan plan s ending lines trace s' (Ok closes.End) = (ending ≡ Whole) × Runs plan 1 s lines trace s'
 LinesRan plan s ending lines trace s' (Ok (closes.Broken fault)) = (ending ≡ Broken fault) × Runs plan 1 s lines trace s'
 LinesRan plan s ending lines trace s' (Ok (closes.Bad bad)) = IsFine ending × StopsAt plan s lines bad trace s'
-LinesRan plan s ending lines trace s' (Err stops.Memory) = IsUnbroken ending × (reached : Stage) × RanFirst plan s lines trace reached
+LinesRan plan s ending lines trace s' (Err stops.Memory) = (IsFine ending × (reached : Stage) × RanFirst plan s lines trace reached) ⊎ ((ending ≡ Lost) × Runs plan 1 s lines trace s')
 LinesRan plan s ending lines trace s' (Err stops.WriteFault) = IsFine ending × Runs plan 1 s lines trace s'

@@ -25,7 +25,7 @@ use Rattle.rina_run.specs.declared.outcome.Status.{Status}
 use Rattle.rina_run.specs.declared.outcome.Status.TheVariants as statuses
 use Rattle.rina_run.specs.Opening.{IsOpening}
 use Rattle.rina_run.specs.Run.{Runs, StopsAt, RanFirst}
-use Rattle.rina_run.specs.Reading.{Broken, Ending, IsFine, IsReadTo, IsUnbroken, Whole, is_whole}
+use Rattle.rina_run.specs.Reading.{Broken, Ending, IsFine, IsReadTo, Whole, is_whole}
 use Rattle.rina_run.specs.Script.{Script, script_in}
 use Rattle.rina_words.specs.Step.{HasNames, Stage}
 
@@ -77,7 +77,8 @@ pub record IsClosedBad (plan : Plan) (ending : Ending) (lines : List (List ℕ))
 abbrev pub IsStopped : Plan → Ending → List (List ℕ) → Stage → List Note → Stage → Type 0
 IsStopped plan ending lines start trace reached = (IsFine ending × Runs plan 1 start lines trace reached) ⊎ (IsClosedAll plan ending lines start trace reached ⊎ IsClosedBad plan ending lines start trace reached)
 
--- the lines are run, all or those before the one that is outside the grammar, and the closing note is told, or is still to be told
+-- the lines are run, all or those before the one that is outside the grammar, and the closing note is told, or is still to be told; or the next line could
+-- not be read
 abbrev pub IsAtClose : Plan → Ending → List (List ℕ) → Stage → List Note → Stage → Type 0
 IsAtClose plan ending lines start trace reached =
     Runs plan 1 start lines trace reached ⊎ ((IsFine ending × (bad : BadLine) × StopsAt plan start lines bad trace reached) ⊎ (IsClosedAll plan ending lines start trace reached ⊎ IsClosedBad plan ending lines start trace reached))
@@ -89,9 +90,10 @@ pub record PlayedPart (IsAt : List Note → Stage → Type 0) (trace : List Note
   pub left : tower ≡ Some reached.run.tower
   pub after : shelf' ≡ reached.shelf
 
--- memory ran out in a line, or for reading the next one: the first lines were run, each with all of its notes; of the shelf only the names are known
+-- memory ran out in the last line that was read: the lines before it were run, and it was or was not, each with all of its notes; of the shelf only the names
+-- are known
 pub record IsShort (plan : Plan) (ending : Ending) (lines : List (List ℕ)) (start : Stage) (trace : List Note) (shelf' : List Slot) : Type 0 where
-  pub unbroken : IsUnbroken ending
+  pub fine : IsFine ending
   pub reached : Stage
   pub first : RanFirst plan start lines trace reached
   pub names : HasNames start.shelf shelf'

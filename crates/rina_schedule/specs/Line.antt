@@ -1,5 +1,5 @@
 -- Reading a line of a schedule.
-use Rattle.std.specs.Prelude.{ℕ, ◌==◌, List, codes, slice_index, Option, Some, None, IsSomeAnd, IsOk, Result, Ok, Err, if◌then◌else◌}
+use Rattle.std.specs.Prelude.{◌≡◌, ℕ, ◌==◌, ◌||◌, Bool, true, List, codes, slice_index, Option, Some, None, IsSomeAnd, IsOk, Result, Ok, Err, if◌then◌else◌}
 use Rattle.std.specs.Str.{bytes_eq}
 use Rattle.rina_base.specs.Traverse.{◌>>=◌}
 use Rattle.rina_schedule.specs.declared.error.LineError.{LineError}
@@ -59,6 +59,26 @@ word_at word text =
 abbrev pub event_or_none : Option (List ℕ × List ℕ) → Result (Option Event) LineError
 event_or_none None = Ok None
 event_or_none (Some f) = if slice_index f.0 0 == 35 then Ok None else (word_at f.0 f.1 >>= λ event. Ok (Some event))
+
+-- the word is one of a group behind which a name or bytes are copied: of those about the clock, policies and journals; behind `tick` and `round` nothing is
+unfoldable pub step_word_copies : List ℕ → Bool
+step_word_copies word = bytes_eq word (codes "retire") || bytes_eq word (codes "journal")
+
+-- of these, or of those about members of a DIF
+unfoldable pub dif_word_copies : List ℕ → Bool
+dif_word_copies word = bytes_eq word (codes "publish") || bytes_eq word (codes "enrol") || bytes_eq word (codes "member") || bytes_eq word (codes "in") || bytes_eq word (codes "out") || bytes_eq word (codes "clock") || bytes_eq word (codes "cdap") || bytes_eq word (codes "rib") || bytes_eq word (codes "ledger") || step_word_copies word
+
+-- of these, or of those about wires
+unfoldable pub wire_word_copies : List ℕ → Bool
+wire_word_copies word = bytes_eq word (codes "lose") || bytes_eq word (codes "repeat") || bytes_eq word (codes "hold") || bytes_eq word (codes "cut") || bytes_eq word (codes "mend") || dif_word_copies word
+
+-- of all words; a word that the grammar does not have is none
+unfoldable pub word_copies : List ℕ → Bool
+word_copies word = bytes_eq word (codes "register") || bytes_eq word (codes "unregister") || bytes_eq word (codes "alloc") || bytes_eq word (codes "accept") || bytes_eq word (codes "send") || bytes_eq word (codes "read") || bytes_eq word (codes "state") || bytes_eq word (codes "free") || wire_word_copies word
+
+-- the line has a word behind which something is copied
+abbrev pub HasCopyingWord : List ℕ → Type 0
+HasCopyingWord text = IsSomeAnd (next_of text) (λ f. word_copies f.0 ≡ true)
 
 -- a field stands behind the word of a line
 abbrev pub HasOperand : List ℕ → Type 0

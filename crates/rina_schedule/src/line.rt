@@ -1,9 +1,9 @@
 //! Reading a line of a schedule.
-ghost use Rattle.std.specs.Prelude.{◌≡◌, IfErr, IsOk};
+ghost use Rattle.std.specs.Prelude.{◌≡◌, true, IfErr, IsOk};
 ghost use Rattle.std.specs.Str.{bytes_eq};
 ghost use Rattle.rina_schedule.specs.Gives.{Gives};
 ghost use Rattle.rina_schedule.specs.Fields.{field_at};
-ghost use Rattle.rina_schedule.specs.Line.{step_word_at, dif_word_at, wire_word_at, word_at, line_at, HasOperand};
+ghost use Rattle.rina_schedule.specs.Line.{step_word_at, step_word_copies, dif_word_at, dif_word_copies, wire_word_at, wire_word_copies, word_at, word_copies, line_at, HasCopyingWord, HasOperand};
 
 use crate::error::LineError;
 use crate::event::Event;
@@ -20,10 +20,11 @@ fn is(word: &[u8], other: &[u8]) -> bool
     word == other
 }
 
-#[tactic(auto, unfolding(crate::specs::Line::step_word_at))]
+#[tactic(auto, unfolding(crate::specs::Line::step_word_at, crate::specs::Line::step_word_copies))]
 fn read_step_word(alloc: Global, word: &[u8], text: &[u8]) -> Result<Event, LineError>
     ensures read { Gives (λ x. x) result (step_word_at word.now text.now) }
     ensures memory { IfErr result (λ e. e ≡ LineError.Memory → IsOk (field_at 1 text.now)) }
+    ensures copies { IfErr result (λ e. e ≡ LineError.Memory → step_word_copies word.now ≡ true) }
 {
     if is(word, b"tick") {
         step::tick(text)
@@ -38,10 +39,11 @@ fn read_step_word(alloc: Global, word: &[u8], text: &[u8]) -> Result<Event, Line
     }
 }
 
-#[tactic(auto, unfolding(crate::specs::Line::dif_word_at))]
+#[tactic(auto, unfolding(crate::specs::Line::dif_word_at, crate::specs::Line::dif_word_copies))]
 fn read_dif_word(alloc: Global, word: &[u8], text: &[u8]) -> Result<Event, LineError>
     ensures read { Gives (λ x. x) result (dif_word_at word.now text.now) }
     ensures memory { IfErr result (λ e. e ≡ LineError.Memory → IsOk (field_at 1 text.now)) }
+    ensures copies { IfErr result (λ e. e ≡ LineError.Memory → dif_word_copies word.now ≡ true) }
 {
     if is(word, b"publish") {
         dif::publish(alloc, text)
@@ -66,10 +68,11 @@ fn read_dif_word(alloc: Global, word: &[u8], text: &[u8]) -> Result<Event, LineE
     }
 }
 
-#[tactic(auto, unfolding(crate::specs::Line::wire_word_at))]
+#[tactic(auto, unfolding(crate::specs::Line::wire_word_at, crate::specs::Line::wire_word_copies))]
 fn read_wire_word(alloc: Global, word: &[u8], text: &[u8]) -> Result<Event, LineError>
     ensures read { Gives (λ x. x) result (wire_word_at word.now text.now) }
     ensures memory { IfErr result (λ e. e ≡ LineError.Memory → IsOk (field_at 1 text.now)) }
+    ensures copies { IfErr result (λ e. e ≡ LineError.Memory → wire_word_copies word.now ≡ true) }
 {
     if is(word, b"lose") {
         wire::lose(alloc, text)
@@ -86,10 +89,11 @@ fn read_wire_word(alloc: Global, word: &[u8], text: &[u8]) -> Result<Event, Line
     }
 }
 
-#[tactic(auto, unfolding(crate::specs::Line::word_at))]
+#[tactic(auto, unfolding(crate::specs::Line::word_at, crate::specs::Line::word_copies))]
 fn read_word(alloc: Global, word: &[u8], text: &[u8]) -> Result<Event, LineError>
     ensures read { Gives (λ x. x) result (word_at word.now text.now) }
     ensures memory { IfErr result (λ e. e ≡ LineError.Memory → IsOk (field_at 1 text.now)) }
+    ensures copies { IfErr result (λ e. e ≡ LineError.Memory → word_copies word.now ≡ true) }
 {
     if is(word, b"register") {
         at_node(AppWord::Register, alloc, text)
@@ -120,6 +124,8 @@ pub fn read_line(alloc: Global, text: &[u8]) -> Result<Option<Event>, LineError>
     ensures read { Gives (λ x. x) result (line_at text.now) }
     // Only the fields behind the word are copied, so a line without any never fails with `Memory`.
     ensures memory { IfErr result (λ e. e ≡ LineError.Memory → HasOperand text.now) }
+    // Behind `tick` and `round`, and behind a word that the grammar does not have, nothing is copied.
+    ensures copies { IfErr result (λ e. e ≡ LineError.Memory → HasCopyingWord text.now) }
 {
     let Some((word, rest)) = next_field(text) else {
         return Ok(None);

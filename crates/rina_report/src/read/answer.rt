@@ -1,8 +1,8 @@
 //! Reading answers.
-ghost use Rattle.std.specs.Prelude.{◌≡◌, ◌<◌, ◌+◌, IfErr, length};
+ghost use Rattle.std.specs.Prelude.{◌≡◌, ◌<◌, ◌+◌, true, IfErr, length};
 ghost use Rattle.rina_schedule.specs.Gives.{Gives};
 ghost use Rattle.rina_report.specs.Fields.{behind};
-ghost use Rattle.rina_report.specs.ReadAnswers.{role_of, ok_state_of, ok_at, got_at, in_at, out_off_of, out_end_at, out_at, off_at, object_note_at, flow_note_at, entry_at, label_at, journal_word_at, step_word_at, answer_at};
+ghost use Rattle.rina_report.specs.ReadAnswers.{role_of, ok_state_of, ok_at, got_at, in_at, out_off_of, out_end_at, out_at, off_at, object_note_at, flow_note_at, entry_at, label_at, journal_word_at, journal_word_copies, step_word_at, step_word_copies, answer_at, answer_copies};
 
 use crate::answer::{Answer, FlowNote};
 use crate::read::cause::{cause, clock, took};
@@ -225,10 +225,11 @@ fn label(alloc: Global, n: u32, rest: &[u8]) -> Result<Answer, LineError>
 }
 
 /// Reads an answer about a journal or a RIB, whose word was read.
-#[tactic(auto, unfolding(crate::specs::ReadAnswers::journal_word_at))]
+#[tactic(auto, unfolding(crate::specs::ReadAnswers::journal_word_at, crate::specs::ReadAnswers::journal_word_copies))]
 fn journal_word(alloc: Global, word: &[u8], rest: &[u8]) -> Result<Answer, LineError>
     ensures read { Gives (λ x. x) result (journal_word_at word.now (behind rest.now)) }
     ensures memory { IfErr result (λ e. e ≡ LineError.Memory → 0 < length (behind rest.now)) }
+    ensures copies { IfErr result (λ e. e ≡ LineError.Memory → journal_word_copies word.now ≡ true) }
 {
     if is(word, b"cdap") {
         let bytes = last_bytes(alloc, 1, rest)?;
@@ -250,10 +251,11 @@ fn journal_word(alloc: Global, word: &[u8], rest: &[u8]) -> Result<Answer, LineE
 }
 
 /// Reads an answer about a step, a journal or a RIB, whose word was read.
-#[tactic(auto, unfolding(crate::specs::ReadAnswers::step_word_at))]
+#[tactic(auto, unfolding(crate::specs::ReadAnswers::step_word_at, crate::specs::ReadAnswers::step_word_copies))]
 fn step_word(alloc: Global, word: &[u8], rest: &[u8]) -> Result<Answer, LineError>
     ensures read { Gives (λ x. x) result (step_word_at word.now (behind rest.now)) }
     ensures memory { IfErr result (λ e. e ≡ LineError.Memory → 0 < length (behind rest.now)) }
+    ensures copies { IfErr result (λ e. e ≡ LineError.Memory → step_word_copies word.now ≡ true) }
 {
     if is(word, b"in") {
         in_step(alloc, 1, rest)
@@ -275,10 +277,11 @@ fn step_word(alloc: Global, word: &[u8], rest: &[u8]) -> Result<Answer, LineErro
 }
 
 /// Reads an answer, whose word was read.
-#[tactic(auto, unfolding(crate::specs::ReadAnswers::answer_at))]
+#[tactic(auto, unfolding(crate::specs::ReadAnswers::answer_at, crate::specs::ReadAnswers::answer_copies))]
 pub(crate) fn answer(alloc: Global, word: &[u8], rest: &[u8]) -> Result<Answer, LineError>
     ensures read { Gives (λ x. x) result (answer_at word.now (behind rest.now)) }
     ensures memory { IfErr result (λ e. e ≡ LineError.Memory → 0 < length (behind rest.now)) }
+    ensures copies { IfErr result (λ e. e ≡ LineError.Memory → answer_copies word.now ≡ true) }
 {
     if is(word, b"ok") {
         ok(alloc, 1, rest)

@@ -1,8 +1,9 @@
 //! Reading whole notes.
-ghost use Rattle.std.specs.Prelude.{IfOk, IsSome, OnOk, ◌<◌, ◌+◌, ◌∷◌, IfErr, length, ◌≡◌, ◌≢◌};
+ghost use Rattle.std.specs.Prelude.{IfOk, IsSome, IsSomeAnd, OnOk, ◌<◌, ◌+◌, ◌∷◌, true, IfErr, length, slice_get, ◌≡◌, ◌≢◌};
 ghost use Rattle.rina_schedule.specs.Gives.{Gives, or_bad};
 ghost use Rattle.rina_report.specs.Fields.{fields_of, behind, max32, numeral_of};
-ghost use Rattle.rina_report.specs.ReadNotes.{schedule_at, fault_of, fault_at, checked_at, named_at, gen_at, counter_at, told_at, line_note_at, whole_at, note_at, TellsLine};
+ghost use Rattle.rina_report.specs.ReadNotes.{schedule_at, fault_of, fault_at, checked_at, named_at, gen_at, counter_at, told_at, line_note_at, whole_at, note_at, HasCopyingAnswer, TellsLine};
+ghost use Rattle.rina_report.specs.ReadAnswers.{answer_copies};
 
 use crate::note::{Fault, Note};
 use crate::read::answer::answer;
@@ -138,6 +139,7 @@ fn counter_of(text: &[u8]) -> Result<u32, LineError>
 fn told(alloc: Global, line: u32, tick: Tick, rest: &[u8]) -> Result<Note, LineError>
     ensures read { Gives (λ x. x) result (told_at line tick (behind rest.now)) }
     ensures memory { IfErr result (λ e. e ≡ LineError.Memory → 1 < length (behind rest.now)) }
+    ensures copies { IfErr result (λ e. e ≡ LineError.Memory → IsSomeAnd (slice_get (behind rest.now) 0) (λ word. answer_copies word ≡ true)) }
 {
     let Some((word, rest)) = next_field(rest) else {
         return Err(LineError::UnknownWord);
@@ -152,6 +154,7 @@ fn tick(rest: &[u8]) -> Result<(Tick, &[u8]), LineError>
     ensures read { Gives (λ x. (x.0, behind x.1.now)) result (counter_at (behind rest.now)) }
     ensures memory { IfErr result (λ e. e ≢ LineError.Memory) }
     ensures there { IfOk result (λ x. length (behind rest.now) ≡ 1 + length (behind x.1.now)) }
+    ensures next { IfOk result (λ x. slice_get (behind rest.now) 1 ≡ slice_get (behind x.1.now) 0) }
 {
     let Some((text, rest)) = next_field(rest) else {
         return Err(LineError::UnknownWord);
@@ -165,6 +168,7 @@ fn tick(rest: &[u8]) -> Result<(Tick, &[u8]), LineError>
 fn line_note(alloc: Global, first: &[u8], rest: &[u8]) -> Result<Note, LineError>
     ensures read { Gives (λ x. x) result (line_note_at (first.now ∷ behind rest.now)) }
     ensures memory { IfErr result (λ e. e ≡ LineError.Memory → TellsLine (first.now ∷ behind rest.now)) }
+    ensures copies { IfErr result (λ e. e ≡ LineError.Memory → HasCopyingAnswer (first.now ∷ behind rest.now)) }
 {
     let line = counter_of(first)?;
     let (tick, rest) = tick(rest)?;
@@ -175,6 +179,7 @@ fn line_note(alloc: Global, first: &[u8], rest: &[u8]) -> Result<Note, LineError
 fn whole(alloc: Global, word: &[u8], rest: &[u8]) -> Result<Note, LineError>
     ensures read { Gives (λ x. x) result (whole_at word.now (behind rest.now)) }
     ensures memory { IfErr result (λ e. e ≡ LineError.Memory → TellsLine (word.now ∷ behind rest.now)) }
+    ensures copies { IfErr result (λ e. e ≡ LineError.Memory → HasCopyingAnswer (word.now ∷ behind rest.now)) }
 {
     if is(word, b"end") {
         let tick = last_number(1, rest)?;
@@ -200,6 +205,8 @@ pub fn read_note(alloc: Global, text: &[u8]) -> Result<Note, LineError>
     ensures read { Gives (λ x. x) result (note_at text.now) }
     // Only the fields behind the word of a line's answer are copied, so no other note fails with `Memory`.
     ensures memory { IfErr result (λ e. e ≡ LineError.Memory → TellsLine (fields_of text.now)) }
+    // Nothing is copied behind `none`, `sent` and `idle`, nor behind a word that no answer has.
+    ensures copies { IfErr result (λ e. e ≡ LineError.Memory → HasCopyingAnswer (fields_of text.now)) }
 {
     let (word, rest) = first_field(text);
     whole(alloc, word, rest)

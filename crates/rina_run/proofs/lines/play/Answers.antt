@@ -1,9 +1,9 @@
-use Rattle.std.proofs.Common.{ap, arith, ◌∙◌, refl, Err}
+use Rattle.std.proofs.Common.{ap, arith, ◌∙◌, refl, Err, inr}
 use Rattle.std.proofs.lemmas.Result.{err_from_is_err_and}
 use Rattle.bstr.specs.Text.{without_terminator}
 use Rattle.rina_run.specs.Reading.{Broken, Lost}
 use Rattle.rina_run.proofs.Ending.{wrote_nothing}
-use Rattle.rina_run.proofs.Playing.{all_ran, line_on, none_played, stops_at, stopped_in}
+use Rattle.rina_run.proofs.Playing.{line_on, none_played, stops_at, stopped_in}
 use Rattle.rina_run.proofs.ReadOn.{all_behind, broken_behind, enough_behind, one_so_far}
 use Rattle.rina_run.proofs.lines.play.Goals as goal
 
@@ -29,7 +29,7 @@ returns-in-Ok-Broken-clause-does g c =
 
 pub returns-in-Err-clause-does : goal.returns-in-Err-clause-does
 returns-in-Err-clause-does g c =
-    broken_behind _ _ _ _ _ c.lines.invariant.so_far.lines Lost _ c.lines.invariant.so_far.read (λ left before h. c.in-Err.ensures.reads left before h) c.in-Err.ensures.goes_on (tt, _, all_ran _ _ _ _ _ c.lines.invariant.so_far.runs)
+    broken_behind _ _ _ _ _ c.lines.invariant.so_far.lines Lost _ c.lines.invariant.so_far.read (λ left before h. c.in-Err.ensures.reads left before h) c.in-Err.ensures.goes_on (inr (refl, c.lines.invariant.so_far.runs))
 
 pub returns-in_err-error-clause-does : goal.returns-in_err-error-clause-does
 returns-in_err-error-clause-does g c =

@@ -23,6 +23,7 @@ pub returns-then-is_err-clause-refills : goal.returns-then-is_err-clause-refills
 returns-then-is_err-clause-refills g c =
     let read = take c.in-Ok.count c.read.new.buf in
     let long : length read ≡ c.in-Ok.count = sym c.in-Ok.ensures.bound.1 in
+    let few : length c.read.new.buf ≤ c.min-most.result = grind (arith, length-take, c.read.auto.buf) in
     record {
       part = [];
       behind = read;
@@ -30,7 +31,7 @@ returns-then-is_err-clause-refills g c =
       consumed = c.in-Ok.ensures.bytes.0;
       bytes = ap (λ (bs : List ℕ). bs ++ read) c.requires;
       unended = λ k lt. absurd (omega arith);
-      breaks = omega (arith, long, ap (λ r. r.room) c.self.view_is);
+      breaks = (omega (arith, long, few, c.in-Ok.ensures.bound.0), omega (arith, long, ap (λ r. r.room) c.self.view_is));
       kept = λ is. omega (arith, long);
     }
 
