@@ -3,7 +3,7 @@ use Rattle.std.proofs.Common.{◌≡◌, ℕ, ◌+◌, ◌≤◌, ◌⊎◌, Boo
 use Rattle.std.specs.Prelude.{count_by, option_map}
 use Rattle.std.specs.List.{sum_by}
 use Rattle.std.proofs.lemmas.List.{take_all}
-use Rattle.std.proofs.lemmas.List.Sums.{sum_by_more}
+use Rattle.std.proofs.lemmas.List.Sums.{sum_by-take-drop, sum_by_more}
 use Rattle.std.proofs.lemmas.Option.{slice_get_cases}
 use Rattle.rina_gen.specs.Input.{input}
 use Rattle.rina_gen.specs.Text.{input_text}
@@ -32,6 +32,20 @@ failures_more facs i count found next ends so_far is found_is next_is = elim (sl
       let more : sum_by fac_failures (take (i + 1) facs) ≡ sum_by fac_failures (take i facs) + fac_failures f = subst (λ x. sum_by fac_failures (take (i + 1) facs) ≡ sum_by fac_failures (take i facs) + fac_failures x) read (sum_by_more fac_failures facs i f lt) in
       let own : fac_failures f ≡ count_by is_failed_app ends = ap (λ es. count_by is_failed_app es) same in
       omega (arith, so_far, more, own, found_is, next_is)
+  | inr (past, none) ↦ let h : option_map (λ (g : Fac). g.ends) None ≡ Some ends = subst (λ o. option_map (λ (g : Fac). g.ends) o ≡ Some ends) none is in cc
+]
+
+-- they are too many to be counted
+pub failures_beyond : (facs : List Fac) (i count found : ℕ) (ends : List End) → count ≡ sum_by fac_failures (take i facs) → option_map (λ (f : Fac). f.ends) (slice_get facs i) ≡ Some ends → found ≡ count_by is_failed_app ends → 18446744073709551616 ≤ count + found → 18446744073709551616 ≤ sum_by fac_failures facs
+failures_beyond facs i count found ends so_far is found_is much =
+    let next = failures_more facs i count found (count + found) ends so_far is found_is refl in
+    let whole = sum_by-take-drop fac_failures facs (i + 1) in
+    omega (arith, next, whole, much)
+
+-- the facility is one of these
+pub facility_there : (facs : List Fac) (i : ℕ) (ends : List End) → option_map (λ (f : Fac). f.ends) (slice_get facs i) ≡ Some ends → i + 1 ≤ length facs
+facility_there facs i ends is = elim (slice_get_cases facs i).1 [
+  | inl (f, lt, found, read) ↦ omega (arith, lt)
   | inr (past, none) ↦ let h : option_map (λ (g : Fac). g.ends) None ≡ Some ends = subst (λ o. option_map (λ (g : Fac). g.ends) o ≡ Some ends) none is in cc
 ]
 

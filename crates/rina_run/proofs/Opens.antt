@@ -1,5 +1,5 @@
 -- The labels that a run begins with.
-use Rattle.std.proofs.Common.{◌≡◌, ◌∙◌, ℕ, zero, suc, ◌+◌, ◌*◌, ◌<◌, ◌≤◌, ◌==◌, Bool, true, false, List, [], ◌∷◌, ◌++◌, length, map, take, get_or, slice_get, Some, refl, sym, ap, subst, arith, append_assoc}
+use Rattle.std.proofs.Common.{◌≡◌, ◌∙◌, ℕ, zero, suc, ◌+◌, ◌-◌, ◌*◌, ◌<◌, ◌≤◌, ◌==◌, Bool, true, false, List, [], ◌∷◌, ◌++◌, length, map, take, get_or, slice_get, Some, refl, sym, ap, subst, arith, append_assoc}
 use Rattle.std.specs.Prelude.{count_by, flat_map}
 use Rattle.std.specs.List.{range_with_len}
 use Rattle.std.proofs.lemmas.List.{append-nil, length-take, map-append, take_more}
@@ -124,6 +124,26 @@ labels_more plan t at a b p q =
 -- so many links, and those of one more DIF
 pub links_counted : (p : Fixed → Bool) (plan : Plan) (rank at count there after : ℕ) → count ≡ count_by p (flat_map (links_of_rank plan rank) (range_with_len 0 at)) → there ≡ count_by p (links_of_rank plan rank at) → after ≡ count + there → after ≡ count_by p (flat_map (links_of_rank plan rank) (range_with_len 0 (at + 1)))
 links_counted p plan rank at count there after so_far is sum = omega (arith, links_more p plan rank at, so_far, is, sum)
+
+-- more DIFs have no fewer links
+links_up : (p : Fixed → Bool) (plan : Plan) (rank k more : ℕ) → count_by p (flat_map (links_of_rank plan rank) (range_with_len 0 k)) ≤ count_by p (flat_map (links_of_rank plan rank) (range_with_len 0 (k + more)))
+links_up p plan rank k zero =
+    let same : k ≡ k + 0 = omega arith in
+    subst (λ (n : ℕ). count_by p (flat_map (links_of_rank plan rank) (range_with_len 0 k)) ≤ count_by p (flat_map (links_of_rank plan rank) (range_with_len 0 n))) same (omega arith)
+links_up p plan rank k (suc more) =
+    let up = links_up p plan rank k more in
+    let next = links_more p plan rank (k + more) in
+    let last : (k + more) + 1 ≡ k + suc more = omega arith in
+    subst (λ (n : ℕ). count_by p (flat_map (links_of_rank plan rank) (range_with_len 0 k)) ≤ count_by p (flat_map (links_of_rank plan rank) (range_with_len 0 n))) last (omega (arith, up, next))
+
+-- so many links of one more DIF that they can't be counted
+pub links_beyond : (p : Fixed → Bool) (plan : Plan) (rank at count there : ℕ) → at < length plan.difs → count ≡ count_by p (flat_map (links_of_rank plan rank) (range_with_len 0 at)) → there ≡ count_by p (links_of_rank plan rank at) → 18446744073709551616 ≤ count + there → 18446744073709551616 ≤ count_by p (links_at plan rank)
+links_beyond p plan rank at count there lt so_far is much =
+    let next = links_more p plan rank at in
+    let up = links_up p plan rank (at + 1) (length plan.difs - (at + 1)) in
+    let whole : (at + 1) + (length plan.difs - (at + 1)) ≡ length plan.difs = omega (arith, lt) in
+    let all = subst (λ (n : ℕ). count_by p (flat_map (links_of_rank plan rank) (range_with_len 0 (at + 1))) ≤ count_by p (flat_map (links_of_rank plan rank) (range_with_len 0 n))) whole up in
+    omega (arith, next, all, so_far, is, much)
 
 -- the place behind the links on a DIF
 pub first_is : (plan : Plan) (at : ℕ) (d : DifPlan) (fac links n : ℕ) → fac ≡ number_in_rank plan.difs at → links ≡ count_by (λ (f : Fixed). f.fac == fac) (links_at plan (d.rank + 1)) → n ≡ links * 2 → n ≡ 2 * links_on plan at d

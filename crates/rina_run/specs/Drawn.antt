@@ -1,5 +1,5 @@
 -- What `gen` does: the input that is drawn from a number is run, and its counts are told.
-use Rattle.std.specs.Prelude.{◌≡◌, ℕ, ◌+◌, ◌&&◌, not, Bool, true, false, List, [], length, count_by, Option, Some, None, option_map, ◌⊎◌}
+use Rattle.std.specs.Prelude.{◌≡◌, ℕ, ◌+◌, ◌≤◌, ◌&&◌, not, Bool, true, false, List, [], length, count_by, Option, Some, None, option_map, ◌⊎◌}
 use Rattle.std.specs.List.{sum_by}
 use Rattle.rina_iface.specs.declared.ends.End.{End}
 use Rattle.rina_iface.specs.declared.state.PortState.{PortState}
@@ -63,6 +63,11 @@ fac_failures f = count_by is_failed_app f.ends
 abbrev pub failures_in : Tower → ℕ
 failures_in (Wires a) = sum_by fac_failures (seen_of (Wires a)).facs
 failures_in (Rank' p difs below) = failures_in below + sum_by fac_failures (seen_of (Rank' p difs below)).facs
+
+-- at some rank there are so many facilities that not each can have a number
+abbrev pub HasManyFacilities : Tower → Type 0
+HasManyFacilities (Wires a) = 65535 ≤ length (seen_of (Wires a)).facs
+HasManyFacilities (Rank' p difs below) = HasManyFacilities below ⊎ 65535 ≤ length (seen_of (Rank' p difs below)).facs
 
 -- how many lines the schedule of a text has
 abbrev pub line_total : List ℕ → Option ℕ

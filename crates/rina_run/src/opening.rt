@@ -1,5 +1,5 @@
 //! Where a run begins: the tower of a plan, and a label for each end of each flow of the stack.
-ghost use Rattle.std.specs.Prelude.{◌≡◌, ◌<◌, ◌+◌, ◌*◌, ◌==◌, ℕ, List, [], ◌∷◌, count_by, length, map, slice_get, Some, IfOk, IfSome, OnOk};
+ghost use Rattle.std.specs.Prelude.{◌≤◌, ◌^◌, None, ◌≡◌, ◌<◌, ◌+◌, ◌*◌, ◌==◌, ℕ, List, [], ◌∷◌, count_by, length, map, slice_get, Some, IfOk, IfSome, OnOk};
 ghost use Rattle.std.specs.List.{range_with_len};
 ghost use Rattle.rina_iface.specs.declared.ask.Fixed.{Fixed};
 ghost use Rattle.rina_policy.specs.Slots.{Slot};
@@ -59,7 +59,8 @@ fn links_there(plan: &Plan, rank: u8, at: usize, fac: u16) -> usize
 /// no memory.
 fn links_at(plan: &Plan, rank: u8, fac: u16) -> Option<usize>
     requires { IsPlan plan.now }
-    ensures { IfSome result (λ n. n ≡ count_by (λ (f : Fixed). f.fac == fac) (links_at plan.now rank)) }
+    ensures some { IfSome result (λ n. n ≡ count_by (λ (f : Fixed). f.fac == fac) (links_at plan.now rank)) }
+    ensures none { result ≡ None → 2 ^ 64 ≤ count_by (λ (f : Fixed). f.fac == fac) (links_at plan.now rank) }
 {
     let mut count = 0usize;
     'difs: for at in 0..plan.difs.len() {
@@ -72,7 +73,8 @@ fn links_at(plan: &Plan, rank: u8, fac: u16) -> Option<usize>
 fn first_end(plan: &Plan, at: usize, dif: &DifPlan) -> Option<usize>
     requires plan { IsPlan plan.now }
     requires at { slice_get plan.now.difs at ≡ Some dif.now }
-    ensures { IfSome result (λ n. n ≡ 2 * links_on plan.now at dif.now) }
+    ensures some { IfSome result (λ n. n ≡ 2 * links_on plan.now at dif.now) }
+    ensures none { result ≡ None → 2 ^ 64 ≤ 2 * links_on plan.now at dif.now }
 {
     let fac = number_in_rank(plan.difs.as_slice(), at);
     let links = links_at(plan, dif.rank + 1, fac)?;

@@ -1,5 +1,5 @@
 //! The counts of a run, for the summary of one that was drawn.
-ghost use Rattle.std.specs.Prelude.{◌≡◌, ◌≤◌, ◌^◌, length, count_by, Some, IfOk, IfSome, OnErr};
+ghost use Rattle.std.specs.Prelude.{◌≡◌, ◌≤◌, ◌^◌, ◌⊎◌, length, count_by, None, Some, IfOk, IfSome, OnErr};
 ghost use Rattle.std.specs.List.{sum_by};
 ghost use Rattle.rina_data.specs.declared.process.IpcProcess.{IpcProcess};
 ghost use Rattle.rina_gen.specs.Input.{input};
@@ -7,7 +7,7 @@ ghost use Rattle.rina_gen.specs.Text.{input_text};
 ghost use Rattle.rina_iface.specs.Seen.{Fac};
 ghost use Rattle.rina_tower.specs.Ranks.{seen_of};
 ghost use Rattle.rina_tower.specs.Stands.{IsTower};
-ghost use Rattle.rina_run.specs.Drawn.{IsSummary, dif_offs, fac_failures, failures_in, has_failed, is_failed_app, is_got, is_refused, is_sent, line_total, offs_in};
+ghost use Rattle.rina_run.specs.Drawn.{HasManyFacilities, IsSummary, dif_offs, fac_failures, failures_in, has_failed, is_failed_app, is_got, is_refused, is_sent, line_total, offs_in};
 
 use crate::input::lines_behind_mark;
 use rina_base::Memory;
@@ -114,7 +114,8 @@ fn count_refused(notes: &[Note]) -> usize
 
 /// How many PDUs IPC processes have written off. None where that can't be counted.
 fn count_lines(processes: &[IpcProcess]) -> Option<usize>
-    ensures { IfSome result (λ n. n ≡ sum_by (λ (p : IpcProcess). length p.ledger) processes.now) }
+    ensures some { IfSome result (λ n. n ≡ sum_by (λ (p : IpcProcess). length p.ledger) processes.now) }
+    ensures none { result ≡ None → 2 ^ 64 ≤ sum_by (λ (p : IpcProcess). length p.ledger) processes.now }
 {
     match processes {
         [] => Some(0),
@@ -125,14 +126,16 @@ fn count_lines(processes: &[IpcProcess]) -> Option<usize>
 /// How many PDUs the IPC processes of a DIF have written off.
 #[tactic(auto, unfolding(crate::specs::Drawn::dif_offs))]
 fn count_offs_in(dif: &Dif) -> Option<usize>
-    ensures { IfSome result (λ n. n ≡ dif_offs dif.now) }
+    ensures some { IfSome result (λ n. n ≡ dif_offs dif.now) }
+    ensures none { result ≡ None → 2 ^ 64 ≤ dif_offs dif.now }
 {
     count_lines(dif.processes())
 }
 
 /// How many PDUs DIFs have written off.
 fn count_offs_of(difs: &[Dif]) -> Option<usize>
-    ensures { IfSome result (λ n. n ≡ sum_by dif_offs difs.now) }
+    ensures some { IfSome result (λ n. n ≡ sum_by dif_offs difs.now) }
+    ensures none { result ≡ None → 2 ^ 64 ≤ sum_by dif_offs difs.now }
 {
     match difs {
         [] => Some(0),
@@ -146,7 +149,8 @@ fn count_offs_of(difs: &[Dif]) -> Option<usize>
 
 /// How many PDUs the DIFs of all ranks have written off.
 fn count_offs(tower: &Tower) -> Option<usize>
-    ensures { IfSome result (λ n. n ≡ offs_in tower.now) }
+    ensures some { IfSome result (λ n. n ≡ offs_in tower.now) }
+    ensures none { result ≡ None → 2 ^ 64 ≤ offs_in tower.now }
 {
     match tower {
         Tower::Wires(_) => Some(0),
@@ -179,7 +183,8 @@ fn count_failed(ends: &[End]) -> usize
 /// How many ends of applications have failed at the top rank.
 #[tactic(auto, using(crate::proofs::Drawing::failures_more, crate::proofs::Drawing::failures_all))]
 fn count_failures_at_top(tower: &Tower) -> Option<usize>
-    ensures { IfSome result (λ n. n ≡ sum_by fac_failures (seen_of tower.now).facs) }
+    ensures some { IfSome result (λ n. n ≡ sum_by fac_failures (seen_of tower.now).facs) }
+    ensures none { result ≡ None → 2 ^ 64 ≤ sum_by fac_failures (seen_of tower.now).facs ⊎ 65535 ≤ length (seen_of tower.now).facs }
 {
     let mut count = 0usize;
     'facilities: for fac in 0..u16::MAX {
@@ -193,7 +198,8 @@ fn count_failures_at_top(tower: &Tower) -> Option<usize>
 
 /// How many ends of applications have failed at all ranks.
 fn count_failures(tower: &Tower) -> Option<usize>
-    ensures { IfSome result (λ n. n ≡ failures_in tower.now) }
+    ensures some { IfSome result (λ n. n ≡ failures_in tower.now) }
+    ensures none { result ≡ None → 2 ^ 64 ≤ failures_in tower.now ⊎ HasManyFacilities tower.now }
 {
     let top = count_failures_at_top(tower)?;
     match tower {
