@@ -35,23 +35,23 @@ failures_more facs i count found next ends so_far is found_is next_is = elim (sl
   | inr (past, none) ↦ let h : option_map (λ (g : Fac). g.ends) None ≡ Some ends = subst (λ o. option_map (λ (g : Fac). g.ends) o ≡ Some ends) none is in cc
 ]
 
--- they are too many to be counted
+-- and the last was
+pub failures_all : (facs : List Fac) (i count : ℕ) → count ≡ sum_by fac_failures (take i facs) → length facs ≤ i → count ≡ sum_by fac_failures facs
+failures_all facs i count so_far past = so_far ∙ ap (λ fs. sum_by fac_failures fs) (take_all i facs past)
+
+-- with those of the next facility they are too many to be counted
 pub failures_beyond : (facs : List Fac) (i count found : ℕ) (ends : List End) → count ≡ sum_by fac_failures (take i facs) → option_map (λ (f : Fac). f.ends) (slice_get facs i) ≡ Some ends → found ≡ count_by is_failed_app ends → 18446744073709551616 ≤ count + found → 18446744073709551616 ≤ sum_by fac_failures facs
 failures_beyond facs i count found ends so_far is found_is much =
     let next = failures_more facs i count found (count + found) ends so_far is found_is refl in
     let whole = sum_by-take-drop fac_failures facs (i + 1) in
     omega (arith, next, whole, much)
 
--- the facility is one of these
+-- a facility with ends is one of these
 pub facility_there : (facs : List Fac) (i : ℕ) (ends : List End) → option_map (λ (f : Fac). f.ends) (slice_get facs i) ≡ Some ends → i + 1 ≤ length facs
 facility_there facs i ends is = elim (slice_get_cases facs i).1 [
   | inl (f, lt, found, read) ↦ omega (arith, lt)
   | inr (past, none) ↦ let h : option_map (λ (g : Fac). g.ends) None ≡ Some ends = subst (λ o. option_map (λ (g : Fac). g.ends) o ≡ Some ends) none is in cc
 ]
-
--- and the last was
-pub failures_all : (facs : List Fac) (i count : ℕ) → count ≡ sum_by fac_failures (take i facs) → length facs ≤ i → count ≡ sum_by fac_failures facs
-failures_all facs i count so_far past = so_far ∙ ap (λ fs. sum_by fac_failures fs) (take_all i facs past)
 
 pub no_fault_is_done : (fault : Fault) → statuses.Done ≡ status_of fault → ⊥
 no_fault_is_done (faults.Usage word) h = cc

@@ -64,7 +64,7 @@ abbrev pub failures_in : Tower → ℕ
 failures_in (Wires a) = sum_by fac_failures (seen_of (Wires a)).facs
 failures_in (Rank' p difs below) = failures_in below + sum_by fac_failures (seen_of (Rank' p difs below)).facs
 
--- at some rank there are so many facilities that not each can have a number
+-- some rank has more facilities than are looked at: 65,535 or more
 abbrev pub HasManyFacilities : Tower → Type 0
 HasManyFacilities (Wires a) = 65535 ≤ length (seen_of (Wires a)).facs
 HasManyFacilities (Rank' p difs below) = HasManyFacilities below ⊎ 65535 ≤ length (seen_of (Rank' p difs below)).facs

@@ -1,5 +1,5 @@
 //! Where a run begins: the tower of a plan, and a label for each end of each flow of the stack.
-ghost use Rattle.std.specs.Prelude.{◌≤◌, ◌^◌, None, ◌≡◌, ◌<◌, ◌+◌, ◌*◌, ◌==◌, ℕ, List, [], ◌∷◌, count_by, length, map, slice_get, Some, IfOk, IfSome, OnOk};
+ghost use Rattle.std.specs.Prelude.{◌≡◌, ◌<◌, ◌≤◌, ◌+◌, ◌*◌, ◌^◌, ◌==◌, ℕ, List, [], ◌∷◌, count_by, length, map, slice_get, None, Some, IfOk, IfSome, OnOk};
 ghost use Rattle.std.specs.List.{range_with_len};
 ghost use Rattle.rina_iface.specs.declared.ask.Fixed.{Fixed};
 ghost use Rattle.rina_policy.specs.Slots.{Slot};
@@ -55,8 +55,8 @@ fn links_there(plan: &Plan, rank: u8, at: usize, fac: u16) -> usize
     links_with(plan, at, dif, fac)
 }
 
-/// How many links the DIFs of a rank have on the facility of a number. So many that they can't be counted fit into
-/// no memory.
+/// How many links the DIFs of a rank have on the facility of a number. None only where they are 2^64 or more, and so many fit into no
+/// memory.
 fn links_at(plan: &Plan, rank: u8, fac: u16) -> Option<usize>
     requires { IsPlan plan.now }
     ensures some { IfSome result (λ n. n ≡ count_by (λ (f : Fixed). f.fac == fac) (links_at plan.now rank)) }
@@ -69,7 +69,7 @@ fn links_at(plan: &Plan, rank: u8, fac: u16) -> Option<usize>
     Some(count)
 }
 
-/// The place of the first end of the flows of the DIF at a place of the stack, behind the links on it.
+/// The place of the first end of the flows of the DIF at a place of the stack, behind the links on it. None only where it is 2^64 or more.
 fn first_end(plan: &Plan, at: usize, dif: &DifPlan) -> Option<usize>
     requires plan { IsPlan plan.now }
     requires at { slice_get plan.now.difs at ≡ Some dif.now }

@@ -112,7 +112,7 @@ fn count_refused(notes: &[Note]) -> usize
     count
 }
 
-/// How many PDUs IPC processes have written off. None where that can't be counted.
+/// How many PDUs IPC processes have written off. None only where they are 2^64 or more.
 fn count_lines(processes: &[IpcProcess]) -> Option<usize>
     ensures some { IfSome result (λ n. n ≡ sum_by (λ (p : IpcProcess). length p.ledger) processes.now) }
     ensures none { result ≡ None → 2 ^ 64 ≤ sum_by (λ (p : IpcProcess). length p.ledger) processes.now }
@@ -123,7 +123,7 @@ fn count_lines(processes: &[IpcProcess]) -> Option<usize>
     }
 }
 
-/// How many PDUs the IPC processes of a DIF have written off.
+/// How many PDUs the IPC processes of a DIF have written off. None only where they are 2^64 or more.
 #[tactic(auto, unfolding(crate::specs::Drawn::dif_offs))]
 fn count_offs_in(dif: &Dif) -> Option<usize>
     ensures some { IfSome result (λ n. n ≡ dif_offs dif.now) }
@@ -132,7 +132,7 @@ fn count_offs_in(dif: &Dif) -> Option<usize>
     count_lines(dif.processes())
 }
 
-/// How many PDUs DIFs have written off.
+/// How many PDUs DIFs have written off. None only where they are 2^64 or more.
 fn count_offs_of(difs: &[Dif]) -> Option<usize>
     ensures some { IfSome result (λ n. n ≡ sum_by dif_offs difs.now) }
     ensures none { result ≡ None → 2 ^ 64 ≤ sum_by dif_offs difs.now }
@@ -147,7 +147,7 @@ fn count_offs_of(difs: &[Dif]) -> Option<usize>
     }
 }
 
-/// How many PDUs the DIFs of all ranks have written off.
+/// How many PDUs the DIFs of all ranks have written off. None only where they are 2^64 or more.
 fn count_offs(tower: &Tower) -> Option<usize>
     ensures some { IfSome result (λ n. n ≡ offs_in tower.now) }
     ensures none { result ≡ None → 2 ^ 64 ≤ offs_in tower.now }
@@ -180,7 +180,8 @@ fn count_failed(ends: &[End]) -> usize
     ends.iter().filter(|end| is_failed_app(end)).count()
 }
 
-/// How many ends of applications have failed at the top rank.
+/// How many ends of applications have failed at the top rank. None only where they are 2^64 or more, or the rank has 65,535
+/// facilities or more.
 #[tactic(auto, using(crate::proofs::Drawing::failures_more, crate::proofs::Drawing::failures_all))]
 fn count_failures_at_top(tower: &Tower) -> Option<usize>
     ensures some { IfSome result (λ n. n ≡ sum_by fac_failures (seen_of tower.now).facs) }
@@ -196,7 +197,8 @@ fn count_failures_at_top(tower: &Tower) -> Option<usize>
     None
 }
 
-/// How many ends of applications have failed at all ranks.
+/// How many ends of applications have failed at all ranks. None only where they are 2^64 or more, or a rank has 65,535
+/// facilities or more.
 fn count_failures(tower: &Tower) -> Option<usize>
     ensures some { IfSome result (λ n. n ≡ failures_in tower.now) }
     ensures none { result ≡ None → 2 ^ 64 ≤ failures_in tower.now ⊎ HasManyFacilities tower.now }
