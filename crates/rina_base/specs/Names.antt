@@ -1,5 +1,5 @@
 -- What a name is, and the first fault of a text that is none.
-use Rattle.std.specs.Prelude.{◌≡◌, ℕ, ◌+◌, Bool, ◌||◌, ◌&&◌, ◌==◌, not, List, length, position, take, drop, nat_le, Result, Ok, Err, Option, Some, None, if◌then◌else◌}
+use Rattle.std.specs.Prelude.{◌≡◌, ℕ, ◌+◌, Bool, true, ◌||◌, ◌&&◌, ◌==◌, not, List, length, position, take, drop, nat_le, Result, Ok, Err, is_ok, Option, Some, None, if◌then◌else◌}
 use Rattle.rina_base.specs.declared.name.NameError.{NameError}
 use Rattle.rina_base.specs.declared.name.NameError.TheVariants.{Memory, BadLength, BadByte}
 use Rattle.rina_base.specs.Traverse.{◌>>=◌}
@@ -51,9 +51,9 @@ app_cut (Some k) text = ipc_at (take k text) (drop (k + 1) text) >>= λ _. Ok te
 unfoldable pub app_at : List ℕ → Result (List ℕ) NameError
 app_at text = app_cut (slash_in text) text
 
--- what a call returned, seen by view, is what reading gives, unless memory ran out
+-- what a call returned, seen by view, is what reading gives; or memory ran out for a text that can be read
 abbrev pub Gives : {X Y : Type 0} → (X → Y) → Result X NameError → Result Y NameError → Type 0
 Gives view (Ok x) read = read ≡ Ok (view x)
-Gives view (Err Memory) read = Unit {0}
+Gives view (Err Memory) read = is_ok read ≡ true
 Gives view (Err (BadLength n)) read = read ≡ Err (BadLength n)
 Gives view (Err (BadByte n)) read = read ≡ Err (BadByte n)

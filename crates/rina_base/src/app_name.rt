@@ -65,6 +65,7 @@ fn check_app(text: &[u8]) -> Result<(), NameError>
 impl AppName {
     /// The application name that a text is, or its first fault: the length of a part, then the
     /// bytes from the left.
+    /// Only a text that is one wants memory.
     pub fn read(alloc: Global, text: &[u8]) -> Result<AppName, NameError>
         ensures { Gives (λ n. n) result (app_at text.now) }
     {

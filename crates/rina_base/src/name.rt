@@ -100,6 +100,7 @@ pub(crate) fn check_name(text: &[u8]) -> Result<(), NameError>
 
 impl Name {
     /// The name that a text is, or its first fault: the length, then the bytes from the left.
+    /// Only a text that is one wants memory.
     pub fn read(alloc: Global, text: &[u8]) -> Result<Name, NameError>
         ensures { Gives (λ n. n) result (name_at text.now) }
     {

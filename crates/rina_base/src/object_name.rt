@@ -1,5 +1,5 @@
 //! Names of the objects of a RIB (resource information base).
-ghost use Rattle.std.specs.Prelude.{◌≡◌, ◌≤◌, true, IfOk, IfSome};
+ghost use Rattle.std.specs.Prelude.{◌≡◌, ◌≤◌, true, IfErr, IfOk, IfSome};
 ghost use Rattle.rina_base.specs.ObjectNames.{is_object_byte, are_parts, is_object_name, object_name_of};
 
 use crate::memory::Memory;
@@ -63,10 +63,11 @@ pub fn is_object_name(text: &[u8]) -> bool
 }
 
 impl ObjectName {
-    /// The name that a text is; None where it is none.
+    /// The name that a text is; None where it is none, whatever memory there is.
     #[tactic(auto, unfolding(crate::specs::ObjectNames::object_name_of))]
     pub fn read(alloc: Global, text: &[u8]) -> Result<Option<ObjectName>, Memory>
-        ensures { IfOk result (λ n. n ≡ object_name_of text.now) }
+        ensures read { IfOk result (λ n. n ≡ object_name_of text.now) }
+        ensures memory { IfErr result (λ _. is_object_name text.now ≡ true) }
     {
         if !is_object_name(text) {
             return Ok(None);

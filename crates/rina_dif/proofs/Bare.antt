@@ -1,5 +1,7 @@
 -- A DIF without flows stands.
 use Rattle.std.proofs.Common.{◌≡◌, ◌∙◌, ℕ, ◌+◌, ◌-◌, ◌*◌, ◌^◌, Bool, List, [], ◌∷◌, ◌++◌, length, map, slice_get, option_map, Option, Some, None, refl, sym, ap, subst, arith, inl, inr, ◌⊎◌}
+use Rattle.std.specs.Prelude.{IsSome}
+use Rattle.std.proofs.lemmas.Bool.{false≢true}
 use Rattle.std.proofs.lemmas.List.{length-map}
 use Rattle.std.proofs.lemmas.Option.{slice_get-map}
 use Rattle.rina_access.specs.declared.rules.Rule.{Rule}
@@ -18,7 +20,7 @@ use Rattle.rina_data.specs.declared.settings.Settings.{Settings}
 use Rattle.rina_dif_law.specs.Cloud.{IsMine, Waits}
 use Rattle.rina_data.specs.Configs.{Member, config_of, member_of}
 use Rattle.rina_data.specs.Deciding.{plain, process_of}
-use Rattle.rina_data.specs.Process.{Process, next_hop}
+use Rattle.rina_data.specs.Process.{Process, Queue, next_hop, queue_place}
 use Rattle.rina_dif_law.specs.Numbered.{AreDrawn, AreMembers}
 use Rattle.rina_dif_law.specs.Standing.{HasLink, IsConfig, IsInside, IsLinked}
 use Rattle.rina_dif_law.specs.Start.{IsStart}
@@ -36,7 +38,9 @@ use Rattle.rina_dif.specs.Holding.{AreHoused, Holds}
 use Rattle.rina_dif.specs.Managing.{AreEnrolled, AreManaged, AreStarted}
 use Rattle.rina_dif.specs.Shown.{seen_of}
 use Rattle.rina_dif.proofs.Causing.{none_caused}
+use Rattle.rina_dif.proofs.Linked.{has_id}
 use Rattle.rina_dif.proofs.Started.{bare_managed}
+use Rattle.rina_dif.proofs.WaitsOnLive.{none_on_live}
 use Rattle.rina_dif.specs.Connected.{AreConnected, CanManage}
 use Rattle.rina_dif.proofs.Connected.{none_connected}
 use Rattle.rina_dif.specs.Flooding.{AreFlooding}
@@ -65,6 +69,9 @@ no_item settings ps i n item bare w =
 
 pub no_hop : (dst link : ℕ) (routes : List Route) → routes ≡ [] → next_hop dst routes ≡ Some link → ⊥
 no_hop dst link routes none is = (let e : next_hop dst [] ≡ Some link = subst (λ rs. next_hop dst rs ≡ Some link) none is in cc)
+
+no_queue : (qos link : ℕ) (queues : List Queue) → queues ≡ [] → IsSome (queue_place qos link queues) → ⊥
+no_queue qos link queues none some = false≢true (subst (λ (qs : List Queue). IsSome (queue_place qos link qs)) none some)
 
 -- a DIF without flows starts, where its links are those of its members below, and nothing was sent
 pub starts : (d : Dif) (below : Seen) → d.flows.journal.ends ≡ [] → d.flows.conns ≡ [] → IsConfig (config_of d.settings) → d.clock ≡ below.now → length d.processes ≡ length d.settings.members
@@ -142,7 +149,14 @@ bare_holds d below kept ends conns channels link_ends link_conns laid bare rules
     let config : IsConfig (config_of d.settings) = can.managed.config in
     let start = starts d below ends conns config clock bare.aligned (λ i member link is has. absurd (no_link d.settings d.processes i link bare has)) (λ port end here mine. absurd (free port end here mine)) (λ port end here mine. absurd (free port end here (inl mine))) (λ i n item waits. no_item d.settings d.processes i n item bare waits) in
     let untouched : IsUntouched d below = record { unread = λ port e here mine. absurd (free port e here (inl mine)); clean = λ i p is. (bare.each i p is).ledger } in
-    start_holds d below kept ends conns start untouched members (undrawn config.widths) (λ i p is. (let b = bare.each i p is in record { cap = b.room; links = λ place qos link stands live known. absurd (none_in place link p.links b.links stands); queues = λ dst link qos hop known. absurd (no_hop dst link p.routes b.routes hop) })) (bare_managed d.laid.is_static d.settings d.laid.links rules allow d.clock d.processes d.managements laid bare config members named started) enrolled
+    start_holds d below kept ends conns start untouched members (undrawn config.widths) (λ i p is. (let b = bare.each i p is in record {
+      cap = b.room;
+      links = λ place qos link stands live known. absurd (none_in place link p.links b.links stands);
+      queues = λ dst link qos hop known. absurd (no_hop dst link p.routes b.routes hop);
+      cubes = λ qos known. b.ids.all qos (has_id d.settings qos known);
+      whole = λ number a c some known. absurd (no_queue a number (process_of p).queues (ap (map plain) b.queues) some);
+      waits = none_on_live (process_of p) (λ place queue there. absurd (none_in place queue (process_of p).queues (ap (map plain) b.queues) there));
+    })) (bare_managed d.laid.is_static d.settings d.laid.links rules allow d.clock d.processes d.managements laid bare config members named started) enrolled
     (none_connected (config_of d.settings) d.clock d.connections (seen_of d).processes below channels link_ends link_conns clock can (λ i n p x. no_link d.settings d.processes i x.link bare (record { process = x.process; is_process = x.is_process; place = x.place; stands = x.stands }))) floods
 
 -- One by one

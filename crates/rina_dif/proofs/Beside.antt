@@ -42,11 +42,14 @@ use Rattle.rina_dif_law.proofs.Numbering.{beside_after}
 use Rattle.rina_dif_law.proofs.Taking.{still_stands}
 use Rattle.rina_dif_law.proofs.Upper.{acknowledged_silent, forgotten_silent, ins_silent, outs_silent, resent_silent, silent_same}
 use Rattle.rina_dif.specs.declared.dif.Dif.{Dif}
-use Rattle.rina_dif.specs.Clocking.{Serves, ServesAny, Steps, StepsFlow, StepsHere}
+use Rattle.rina_dif.specs.Claiming.{ClaimsFirst, MayHaveClaimed, NoLinkComes}
+use Rattle.rina_dif.specs.Clocking.{Serves, ServesAny, ServesThen, Steps, StepsFlow, StepsHere}
 use Rattle.rina_dif.specs.Facade.{GoesOn, OthersStand}
 use Rattle.rina_dif.specs.Holding.{Holds, LinksStand, Stands}
 use Rattle.rina_dif.specs.LinkSteps.{DoesLink}
 use Rattle.rina_dif.proofs.Enrolled.{stay_same}
+use Rattle.rina_dif.proofs.ClaimedBelow.{holds_claimed}
+use Rattle.rina_dif.proofs.ClaimedFirst.{no_link_kept, no_link_later}
 use Rattle.rina_dif.proofs.FreedBelow.{holds_freed}
 use Rattle.rina_flows.specs.declared.flows.Flows.{Flows}
 use Rattle.rina_iface.specs.Later.{IsLater}
@@ -256,15 +259,15 @@ any_silent d lines below node done d' lines' below' (inr message) =
     silent_same (seen_of d) (seen_of d') (ap (λ (z : Dif). (seen_of z).ends) only) (ap (λ (z : Dif). (seen_of z).config) only) (ap (λ (z : Dif). (seen_of z).clock) only)
 
 pub steps_silent : (d : Dif) (lines : List Direction) (below : Seen) (node : ℕ) (done : ClockStep) (d' : Dif) (lines' : List Direction) (below' : Seen) → Steps d lines below node done d' lines' below' → IsSilent (seen_of d) (seen_of d')
-steps_silent d lines below node step.Idle d' lines' below' s = any_silent d lines below node step.Idle d' lines' below' s.1
-steps_silent d lines below node (step.Gone cep) d' lines' below' s = any_silent d lines below node (step.Gone cep) d' lines' below' s.1
-steps_silent d lines below node (step.GaveUp num) d' lines' below' s = any_silent d lines below node (step.GaveUp num) d' lines' below' s.1
-steps_silent d lines below node (step.Ack cep) d' lines' below' s = any_silent d lines below node (step.Ack cep) d' lines' below' s.1
-steps_silent d lines below node (step.Again num) d' lines' below' s = any_silent d lines below node (step.Again num) d' lines' below' s.1
+steps_silent d lines below node step.Idle d' lines' below' s = any_silent d lines s.1.mid node step.Idle d' lines' below' s.1.serves
+steps_silent d lines below node (step.Gone cep) d' lines' below' s = any_silent d lines s.1.mid node (step.Gone cep) d' lines' below' s.1.serves
+steps_silent d lines below node (step.GaveUp num) d' lines' below' s = any_silent d lines s.1.mid node (step.GaveUp num) d' lines' below' s.1.serves
+steps_silent d lines below node (step.Ack cep) d' lines' below' s = any_silent d lines s.1.mid node (step.Ack cep) d' lines' below' s.1.serves
+steps_silent d lines below node (step.Again num) d' lines' below' s = any_silent d lines s.1.mid node (step.Again num) d' lines' below' s.1.serves
 steps_silent d lines below node (step.LinkLost link) d' lines' below' s = loses_silent d lines below s.0.i node link d' s.0.loses
-steps_silent d lines below node (step.LinkNew link) d' lines' below' s = any_silent d lines below node (step.LinkNew link) d' lines' below' s.1
-steps_silent d lines below node (step.Timeout port) d' lines' below' s = any_silent d lines below node (step.Timeout port) d' lines' below' s.1
-steps_silent d lines below node (step.Message link) d' lines' below' s = any_silent d lines below node (step.Message link) d' lines' below' s.1
+steps_silent d lines below node (step.LinkNew link) d' lines' below' s = (let only = s.1.takes.only in silent_same (seen_of d) (seen_of d') (ap (λ (z : Dif). (seen_of z).ends) only) (ap (λ (z : Dif). (seen_of z).config) only) (ap (λ (z : Dif). (seen_of z).clock) only))
+steps_silent d lines below node (step.Timeout port) d' lines' below' s = any_silent d lines s.1.mid node (step.Timeout port) d' lines' below' s.1.serves
+steps_silent d lines below node (step.Message link) d' lines' below' s = any_silent d lines s.1.mid node (step.Message link) d' lines' below' s.1.serves
 
 -- the rank below after a clock step: the clock stands, and each DIF over it stands on
 pub record IsOver (below below' : Seen) : Type 0 where
@@ -293,16 +296,37 @@ any_over : (d : Dif) (lines : List Direction) (below : Seen) (node : ℕ) (done 
 any_over d lines below node done d' lines' below' links kept kept' later (inl served) = serves_over d lines below node done d' lines' below' links kept kept' later served.0
 any_over d lines below node done d' lines' below' links kept kept' later (inr message) = over_same below below' message.2
 
+-- a flow that came in is claimed
+claimed_over : (below : Seen) (node : ℕ) (app : List ℕ) (port : Port) (below' : Seen) → AreKept below' → ClaimsFirst below node app port below' → IsOver below below'
+claimed_over below node app port below' kept' c = record { clock = ap (λ (z : Seen). z.now) c.claimed.new_is; stands = λ other lines h. holds_claimed other lines below below' node app port kept' c h }
+
+no_link_over : (d : Dif) (below : Seen) (node : ℕ) (mid : Seen) → AreKept below → NoLinkComes d below node mid → IsOver below mid
+no_link_over d below node mid kept (inl none) = over_same below mid none.1
+no_link_over d below node mid kept (inr c) = claimed_over below node c.member.name c.port mid (no_link_kept d below node mid (inr c) kept) c.claims
+
+over_on : (a b c : Seen) → IsOver a b → IsOver b c → IsOver a c
+over_on a b c x y = record { clock = y.clock ∙ x.clock; stands = λ other lines h. y.stands other lines (x.stands other lines h) }
+
+then_over : (d : Dif) (lines : List Direction) (below : Seen) (node : ℕ) (done : ClockStep) (d' : Dif) (lines' : List Direction) (below' : Seen) → AreKept below → AreKept below' → IsLater below below' → ServesThen d lines below node done d' lines' below' → IsOver below below'
+then_over d lines below node done d' lines' below' kept kept' later s =
+    over_on below s.mid below' (no_link_over d below node s.mid kept s.none)
+    (any_over d lines s.mid node done d' lines' below' s.holds.connected (no_link_kept d below node s.mid s.none kept) kept' (no_link_later d below node s.mid below' s.none later) s.serves)
+
+-- without memory it may be
+may_over : (d : Dif) (below : Seen) (node : ℕ) (below' : Seen) → AreKept below' → MayHaveClaimed d below node below' → IsOver below below'
+may_over d below node below' kept' (inl same) = over_same below below' same
+may_over d below node below' kept' (inr (i, member, port, may, c)) = claimed_over below node member.name port below' kept' c
+
 pub steps_over : (d : Dif) (lines : List Direction) (below : Seen) (node : ℕ) (done : ClockStep) (d' : Dif) (lines' : List Direction) (below' : Seen) → LinksStand d below → AreKept below → AreKept below' → IsLater below below' → Steps d lines below node done d' lines' below' → IsOver below below'
-steps_over d lines below node step.Idle d' lines' below' links kept kept' later s = any_over d lines below node step.Idle d' lines' below' links kept kept' later s.1
-steps_over d lines below node (step.Gone cep) d' lines' below' links kept kept' later s = any_over d lines below node (step.Gone cep) d' lines' below' links kept kept' later s.1
-steps_over d lines below node (step.GaveUp num) d' lines' below' links kept kept' later s = any_over d lines below node (step.GaveUp num) d' lines' below' links kept kept' later s.1
-steps_over d lines below node (step.Ack cep) d' lines' below' links kept kept' later s = any_over d lines below node (step.Ack cep) d' lines' below' links kept kept' later s.1
-steps_over d lines below node (step.Again num) d' lines' below' links kept kept' later s = any_over d lines below node (step.Again num) d' lines' below' links kept kept' later s.1
+steps_over d lines below node step.Idle d' lines' below' links kept kept' later s = then_over d lines below node step.Idle d' lines' below' kept kept' later s.1
+steps_over d lines below node (step.Gone cep) d' lines' below' links kept kept' later s = then_over d lines below node (step.Gone cep) d' lines' below' kept kept' later s.1
+steps_over d lines below node (step.GaveUp num) d' lines' below' links kept kept' later s = then_over d lines below node (step.GaveUp num) d' lines' below' kept kept' later s.1
+steps_over d lines below node (step.Ack cep) d' lines' below' links kept kept' later s = then_over d lines below node (step.Ack cep) d' lines' below' kept kept' later s.1
+steps_over d lines below node (step.Again num) d' lines' below' links kept kept' later s = then_over d lines below node (step.Again num) d' lines' below' kept kept' later s.1
 steps_over d lines below node (step.LinkLost link) d' lines' below' links kept kept' later s = over_same below below' s.2
-steps_over d lines below node (step.LinkNew link) d' lines' below' links kept kept' later s = any_over d lines below node (step.LinkNew link) d' lines' below' links kept kept' later s.1
-steps_over d lines below node (step.Timeout port) d' lines' below' links kept kept' later s = any_over d lines below node (step.Timeout port) d' lines' below' links kept kept' later s.1
-steps_over d lines below node (step.Message link) d' lines' below' links kept kept' later s = any_over d lines below node (step.Message link) d' lines' below' links kept kept' later s.1
+steps_over d lines below node (step.LinkNew link) d' lines' below' links kept kept' later s = claimed_over below node s.1.member.name s.1.port below' kept' s.1.claims
+steps_over d lines below node (step.Timeout port) d' lines' below' links kept kept' later s = then_over d lines below node (step.Timeout port) d' lines' below' kept kept' later s.1
+steps_over d lines below node (step.Message link) d' lines' below' links kept kept' later s = then_over d lines below node (step.Message link) d' lines' below' kept kept' later s.1
 
 clock_on : (d : Dif) (below : Seen) (d' : Dif) (lines' : List Direction) (below' : Seen) → d'.enrolled ≡ d.enrolled → Stands d below → IsSilent (seen_of d) (seen_of d') → Holds d' lines' below' → IsOver below below' → IsStep d below d' below'
 clock_on d below d' lines' below' enrolled st silent h over = record {
@@ -312,10 +336,10 @@ clock_on d below d' lines' below' enrolled st silent h over = record {
 }
 
 pub clock_is_step : (d : Dif) (below : Seen) (node : ℕ) (r : Result ClockStep StepError) (d' : Dif) (below' : Seen) → d'.enrolled ≡ d.enrolled → AreKept below → AreKept below' → IsLater below below' → (st : Stands d below) → StepsHere d st.0 below node r d' below' → IsStep d below d' below'
-clock_is_step d below node (Ok done) d' below' enrolled kept kept' later st s = clock_on d below d' s.0.lines' below' enrolled st (steps_silent d st.0 below node done d' s.0.lines' below' s.0.does) s.0.holds (steps_over d st.0 below node done d' s.0.lines' below' st.1.connected kept kept' later s.0.does)
-clock_is_step d below node (Err Memory) d' below' enrolled kept kept' later st s = clock_on d below d' st.0 below' enrolled st (subst (IsSilent (seen_of d)) (sym s.0.0) (silent_refl (seen_of d))) s.0.1 (over_same below below' s.1)
-clock_is_step d below node (Err NoIpc) d' below' enrolled kept kept' later st s = absurd s.0
-clock_is_step d below node (Err NoLink) d' below' enrolled kept kept' later st s = absurd s.0
+clock_is_step d below node (Ok done) d' below' enrolled kept kept' later st s = clock_on d below d' s.lines' below' enrolled st (steps_silent d st.0 below node done d' s.lines' below' s.does) s.holds (steps_over d st.0 below node done d' s.lines' below' st.1.connected kept kept' later s.does)
+clock_is_step d below node (Err Memory) d' below' enrolled kept kept' later st s = clock_on d below d' st.0 below' enrolled st (subst (IsSilent (seen_of d)) (sym s.0) (silent_refl (seen_of d))) s.1 (may_over d below node below' kept' s.2)
+clock_is_step d below node (Err NoIpc) d' below' enrolled kept kept' later st s = absurd s
+clock_is_step d below node (Err NoLink) d' below' enrolled kept kept' later st s = absurd s
 clock_is_step d below node (Err (CountSpent need left)) d' below' enrolled kept kept' later st s = clock_on d below d' st.0 below' enrolled st (subst (IsSilent (seen_of d)) (sym s.1) (silent_refl (seen_of d))) s.2 (over_same below below' s.3)
 
 -- a DIF that stands is one at every moment

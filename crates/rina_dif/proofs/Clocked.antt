@@ -25,8 +25,8 @@ use Rattle.rina_flows.specs.Watching.{NoneDueBeside}
 use Rattle.rina_flows.proofs.Framed.{ids_at}
 use Rattle.rina_dif.specs.declared.clock_steps.Turn.{Turn}
 use Rattle.rina_dif.specs.declared.dif.Dif.{Dif}
-use Rattle.rina_dif.specs.Clocking.{FindsFirst, IsDueAt, IsIdle, IsIn, IsTurn, NoneLostAt, Serves, ServesAny, ServesAnyHere, StepsFlowHere, StepsHere, earlier}
-use Rattle.rina_dif.specs.Holding.{Holds, LinksStand}
+use Rattle.rina_dif.specs.Clocking.{FindsFirst, IsDueAt, IsIdle, IsIn, IsTurn, NoneLostAt, StepsFlowHere, StepsHere, earlier}
+use Rattle.rina_dif.specs.Holding.{Holds}
 use Rattle.rina_dif.specs.Shown.{seen_of}
 use Rattle.rina_dif.specs.Changing.{EndsFlow, without_flow_at}
 use Rattle.rina_dif.specs.Timely.{AcknowledgesAs, ForgetsAs, GivesUp, GivesUpAs, IsHomeEnd, SendsAgainAs}
@@ -293,46 +293,17 @@ steps_err d lines below node r e d' is err same = subst (λ (v : Result ClockSte
 -- A link comes before all of them
 
 pub link_first : (d : Dif) (lines : List Direction) (below : Seen) (node i : ℕ) (lost : Lost) (d' : Dif) → home node (config_of d.settings).members ≡ Some i → LosesAs d lines below i node lost.number (Ok tt) d' → StepsHere d lines below node (Ok (step.LinkLost lost.number)) d' below
-link_first d lines below node i lost d' here l = (record { lines' = lines; does = (record { i = i; at_home = here; loses = l.0 }, refl, refl); holds = l.1 }, tt)
+link_first d lines below node i lost d' here l = record { lines' = lines; does = (record { i = i; at_home = here; loses = l.0 }, refl, refl); holds = l.1 }
 
 pub none_first : (d : Dif) (below : Seen) (node i : ℕ) → home node (config_of d.settings).members ≡ Some i → FindsLostAt d below i None → NoneLostAt d below node
 none_first d below node i here none k p at_home is = (let same : k ≡ i = same_some (home node (config_of d.settings).members) k i at_home here in none p (ap (slice_get d.processes) (sym same) ∙ is))
 
-never_told : (item : Item) → None ≡ Some item → ⊥
-never_told item e = absurd cc
-
-never_lost : (d : Dif) (lines : List Direction) (below : Seen) (node link : ℕ) (d' : Dif) (lines' : List Direction) (below' : Seen) → LinksStand d below → Serves d lines below node (step.LinkLost link) d' lines' below' → ⊥
-never_lost d lines below node link d' lines' below' links (inl flow) = flow.does
-never_lost d lines below node link d' lines' below' links (inr l) = (let x = l.0.does links in never_told x.item x.told)
-
-never_any : (d : Dif) (lines : List Direction) (below : Seen) (node link : ℕ) (d' : Dif) (lines' : List Direction) (below' : Seen) → LinksStand d below → ServesAny d lines below node (step.LinkLost link) d' lines' below' → ⊥
-never_any d lines below node link d' lines' below' links (inl served) = never_lost d lines below node link d' lines' below' links served.0
-never_any d lines below node link d' lines' below' links (inr message) = (let told = message.0.told in absurd cc)
-
-served_done : (d : Dif) (lines : List Direction) (below : Seen) (node : ℕ) (done : ClockStep) (d' : Dif) (below' : Seen) → LinksStand d below → NoneLostAt d below node → ServesAnyHere d lines below node (Ok done) d' below' → StepsHere d lines below node (Ok done) d' below'
-served_done d lines below node step.Idle d' below' links none s = (record { lines' = s.0.lines'; does = (none, s.0.does); holds = s.0.holds }, tt)
-served_done d lines below node (step.Gone cep) d' below' links none s = (record { lines' = s.0.lines'; does = (none, s.0.does); holds = s.0.holds }, tt)
-served_done d lines below node (step.GaveUp num) d' below' links none s = (record { lines' = s.0.lines'; does = (none, s.0.does); holds = s.0.holds }, tt)
-served_done d lines below node (step.Ack cep) d' below' links none s = (record { lines' = s.0.lines'; does = (none, s.0.does); holds = s.0.holds }, tt)
-served_done d lines below node (step.Again num) d' below' links none s = (record { lines' = s.0.lines'; does = (none, s.0.does); holds = s.0.holds }, tt)
-served_done d lines below node (step.LinkLost link) d' below' links none s = absurd (never_any d lines below node link d' s.0.lines' below' links s.0.does)
-served_done d lines below node (step.LinkNew link) d' below' links none s = (record { lines' = s.0.lines'; does = (none, s.0.does); holds = s.0.holds }, tt)
-served_done d lines below node (step.Timeout port) d' below' links none s = (record { lines' = s.0.lines'; does = (none, s.0.does); holds = s.0.holds }, tt)
-served_done d lines below node (step.Message link) d' below' links none s = (record { lines' = s.0.lines'; does = (none, s.0.does); holds = s.0.holds }, tt)
-
 -- a link is lost, and the member makes nothing of it: memory was not found, or no version count is left
 pub loss_refused : (d : Dif) (lines : List Direction) (below : Seen) (node i : ℕ) (lost : Lost) (m : Management) (e : StepError) → home node (config_of d.settings).members ≡ Some i → FindsLostAt d below i (Some lost) → slice_get d.managements i ≡ Some m → AnswersLoss d.clock lost.number m (Err e) → Holds d lines below → StepsHere d lines below node (Err e) d below
-loss_refused d lines below node i lost m why.Memory here finds is answers h = ((refl, h), refl)
+loss_refused d lines below node i lost m why.Memory here finds is answers h = (refl, h, inl refl)
 loss_refused d lines below node i lost m (why.CountSpent need left) here finds is answers h = (record { i = i; at_home = here; lacks = record { lost_link = lost; found = finds; management = m; is_management = is; told = answers } }, refl, h, refl)
 loss_refused d lines below node i lost m why.NoIpc here finds is answers h = absurd answers
 loss_refused d lines below node i lost m why.NoLink here finds is answers h = absurd answers
-
-pub served_first : (d : Dif) (lines : List Direction) (below : Seen) (node : ℕ) (r : Result ClockStep StepError) (d' : Dif) (below' : Seen) → LinksStand d below → NoneLostAt d below node → ServesAnyHere d lines below node r d' below' → StepsHere d lines below node r d' below'
-served_first d lines below node (Ok done) d' below' links none s = served_done d lines below node done d' below' links none s
-served_first d lines below node (Err why.Memory) d' below' links none s = s
-served_first d lines below node (Err why.NoIpc) d' below' links none s = absurd s.0
-served_first d lines below node (Err why.NoLink) d' below' links none s = absurd s.0
-served_first d lines below node (Err (why.CountSpent need left)) d' below' links none s = absurd s.0
 
 -- the management connections stay where only the flows are served
 pub same_links : (d x : Dif) → x ≡ record d { processes = x.processes; flows = x.flows; ids = x.ids; managements = x.managements } → x.connections ≡ d.connections

@@ -52,11 +52,12 @@ use Rattle.rina_dif.specs.Connected.{AreConnected, channels_seen}
 use Rattle.rina_dif.specs.Holding.{Holds}
 use Rattle.rina_dif.specs.Shown.{seen_of}
 use Rattle.rina_dif.proofs.Causing.{process_caused}
-use Rattle.rina_dif.proofs.Keeping.{IsSameHouse, home_set}
+use Rattle.rina_dif.proofs.Keeping.{IsSameHouse, home_set, kept_house}
 use Rattle.rina_dif.proofs.Leaves.{shown_at, stepped}
 use Rattle.rina_dif.proofs.Flooding.{SameTexts, said_floods, set_said}
 use Rattle.rina_dif.specs.Flooding.{AreFlooding}
 use Rattle.rina_dif.proofs.LinkEnds.{live_floods}
+use Rattle.rina_dif.proofs.NamedByPlace.{named_set}
 
 -- Whatever an end of a link makes
 
@@ -181,7 +182,7 @@ one_closed d lines below i p port place flows ledger room h is is_open fits clos
     let leaves = noting_leaves_links (seen_of d).processes i ps' notes in
     let ended = ended_stands m had.lines (seen_of d).processes ps' below place Closed s.offs flows.journal.ends had.standing s.stops leaves in
     let standing = subst (λ (z : ChannelsSeen). IsStanding z had.lines ps' below) (sym (calls_change_ends g c.manage d.clock c.channels c.flows flows s.ids)) ended in
-    let connected : AreConnected g d.clock c' ps' below = record { may = had.may; lines = had.lines; tied = s.tied; standing = standing; paired = had.paired; each = λ j n q live. had.each j n q (leaves.live j n q live) } in
+    let connected : AreConnected g d.clock c' ps' below = record { may = had.may; lines = had.lines; tied = s.tied; standing = standing; paired = had.paired; named = named_set c.flows.journal.ends flows.journal.ends place s.stops.end (record s.stops.end { state = Closed }) s.stops.is_conn.end refl s.stops.ends_are had.named; each = λ j n q live. had.each j n q (leaves.live j n q live) } in
     let said : SameTexts c.flows.journal.ends flows.journal.ends = subst (SameTexts c.flows.journal.ends) (sym s.stops.ends_are) (set_said c.flows.journal.ends place s.stops.end (record s.stops.end { state = Closed }) s.stops.is_conn.end refl refl) in
     record {
       offs = offs;
@@ -191,7 +192,7 @@ one_closed d lines below i p port place flows ledger room h is is_open fits clos
           inl (place, is_open, record { held = x.offs; offs_are = same; ends = x.stops; ids = x.ids; tied = x.tied; same = refl }));
       ledger_is = s.ledger_is;
       few = omega (arith, few, held);
-      holds = served_holds d lines below i p (record p { ledger = ledger }) c' refl h is refl (record { links = refl; routes = refl; places = λ qos link. refl }) (i, inr notes) (subst (λ (z : Process). AreWrittenOff (with_process (seen_of d) i z)) (sym noted) (lines_lawful (seen_of d) i (process_of p) offs (shown_at d i p is) (λ off one. (let x = lines_held g d.clock c (seen_of d).processes below had place s.offs flows.journal.ends s.stops off one in (x.ids.scep, ap (λ (z : Off). z.cause) x.off_is ∙ x.held.4))) h.written_off)) connected (λ alive. said_floods d flows said (h.flooded alive));
+      holds = served_holds d lines below i p (record p { ledger = ledger }) c' refl h is refl (kept_house _ _ refl refl refl) (i, inr notes) (subst (λ (z : Process). AreWrittenOff (with_process (seen_of d) i z)) (sym noted) (lines_lawful (seen_of d) i (process_of p) offs (shown_at d i p is) (λ off one. (let x = lines_held g d.clock c (seen_of d).processes below had place s.offs flows.journal.ends s.stops off one in (x.ids.scep, ap (λ (z : Off). z.cause) x.off_is ∙ x.held.4))) h.written_off)) connected (λ alive. said_floods d flows said (h.flooded alive));
     }
 
 pub link_closed : (d : Dif) (lines : List Direction) (below : Seen) (i : ℕ) (p : IpcProcess) (port : Port) (end : Option ℕ) (flows : Flows) (ledger : List Off) (room : ℕ) → Holds d lines below → slice_get d.processes i ≡ Some p → FindsOpen d.connections port end → length p.ledger + held_at end d.connections.flows ≤ room → ClosesIn d.clock end d.connections.flows p.ledger room flows ledger → HasClosed d lines below i p port flows ledger (held_at end d.connections.flows)

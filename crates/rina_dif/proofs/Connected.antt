@@ -64,6 +64,7 @@ kept_by g now c ps ps' below leaves h = record {
   tied = h.tied;
   standing = other_pdus_stand (channels_seen g now c) h.lines ps ps' below h.standing (leaves h.may);
   paired = h.paired;
+  named = h.named;
   each = λ i n port live. h.each i n port ((leaves h.may).live i n port live);
 }
 
@@ -76,22 +77,23 @@ later_connected g now now' c ps below below' le kept lifted clock h = record {
   tied = tied_later (link_config g c.manage) now now' c.flows.journal.ends c.flows.conns h.lines le h.tied;
   standing = subst (λ (t : ℕ). IsStanding (channels_seen g t c) (map (ticked (t - now)) h.lines) ps below') clock (time_stands (channels_seen g now c) h.lines ps below below' kept h.standing lifted);
   paired = h.paired;
+  named = h.named;
   each = h.each;
 }
 
 pub beside_connected : (g : Config) (now : ℕ) (c : Connections) (ps : List Process) (below below' : Seen) → AreKept below' → IsLifted g below below' → below'.now ≡ below.now → AreConnected g now c ps below → AreConnected g now c ps below'
-beside_connected g now c ps below below' kept lifted clock h = record { may = h.may; lines = h.lines; tied = h.tied; standing = beside_stands (channels_seen g now c) h.lines ps below below' kept h.standing lifted clock; paired = h.paired; each = h.each }
+beside_connected g now c ps below below' kept lifted clock h = record { may = h.may; lines = h.lines; tied = h.tied; standing = beside_stands (channels_seen g now c) h.lines ps below below' kept h.standing lifted clock; paired = h.paired; named = h.named; each = h.each }
 
 pub aside_connected : (g : Config) (now : ℕ) (c : Connections) (ps : List Process) (below below' : Seen) → IsAfter g NoMore below below' → EndsGoOn below below' → below'.now ≡ below.now → AreConnected g now c ps below → AreConnected g now c ps below'
-aside_connected g now c ps below below' after go clock h = record { may = h.may; lines = h.lines; tied = h.tied; standing = still_stands (channels_seen g now c) h.lines ps ps below below' h.standing (leaves_refl ps) after go clock; paired = h.paired; each = h.each }
+aside_connected g now c ps below below' after go clock h = record { may = h.may; lines = h.lines; tied = h.tied; standing = still_stands (channels_seen g now c) h.lines ps ps below below' h.standing (leaves_refl ps) after go clock; paired = h.paired; named = h.named; each = h.each }
 
 -- an SDU is taken from there
 pub taking_connected : (g : Config) (now : ℕ) (c : Connections) (ps : List Process) (below : Seen) (port : Port) (below' : Seen) → AreKept below → AreKept below' → PassesBelow below port below' → AreConnected g now c ps below → AreConnected g now c ps below'
-taking_connected g now c ps below port below' kept kept' passed h = record { may = h.may; lines = h.lines; tied = h.tied; standing = taking_stands (channels_seen g now c) h.lines ps below port below' kept kept' h.standing passed; paired = h.paired; each = h.each }
+taking_connected g now c ps below port below' kept kept' passed h = record { may = h.may; lines = h.lines; tied = h.tied; standing = taking_stands (channels_seen g now c) h.lines ps below port below' kept kept' h.standing passed; paired = h.paired; named = h.named; each = h.each }
 
 -- a PDU goes out
 pub outs_connected : (refuses : Port → ℕ → Option SendError) (d : DifSeen) (flows : List Direction) (c : Connections) (below : Seen) (i n : ℕ) (r : Result OutStep StepError) (d' : DifSeen) (below' : Seen) → AreKept below → AreKept below' → DifStands d flows below → Outs refuses d below i n r d' below' → ((j k : ℕ) (port : Port) → HasLive d'.processes j k port → HasLive d.processes j k port) → AreConnected d.config d.clock c d.processes below → AreConnected d.config d.clock c d'.processes below'
-outs_connected refuses d flows c below i n r d' below' kept kept' stands outs live h = record { may = h.may; lines = h.lines; tied = h.tied; standing = outs_stand refuses (channels_seen d.config d.clock c) h.lines d flows below i n r d' below' kept kept' stands refl refl h.standing outs; paired = h.paired; each = λ j k port there. h.each j k port (live j k port there) }
+outs_connected refuses d flows c below i n r d' below' kept kept' stands outs live h = record { may = h.may; lines = h.lines; tied = h.tied; standing = outs_stand refuses (channels_seen d.config d.clock c) h.lines d flows below i n r d' below' kept kept' stands refl refl h.standing outs; paired = h.paired; named = h.named; each = λ j k port there. h.each j k port (live j k port there) }
 
 -- Before the first link
 
@@ -127,7 +129,7 @@ none_so_far g now c ps below channels ends conns clock may numbered based =
 pub none_connected : (g : Config) (now : ℕ) (c : Connections) (ps : List Process) (below : Seen) → c.channels ≡ [] → c.flows.journal.ends ≡ [] → c.flows.conns ≡ [] → now ≡ below.now → CanManage g c.manage → ((i n : ℕ) (port : Port) → HasLive ps i n port → ⊥) → AreConnected g now c ps below
 none_connected g now c ps below channels ends conns clock may none =
     let s = none_so_far g now c ps below channels ends conns clock may (λ i n p q x y. absurd (none i n p x)) (λ i n port x. absurd (none i n port x)) in
-    record { may = s.may; lines = s.lines; tied = s.tied; standing = s.standing; paired = s.paired; each = λ i n port live. absurd (none i n port live) }
+    record { may = s.may; lines = s.lines; tied = s.tied; standing = s.standing; paired = s.paired; named = λ k e is. absurd (none_in c.flows.journal.ends k e ends is); each = λ i n port live. absurd (none i n port live) }
 
 -- As an IPC process decides on a PDU that came
 

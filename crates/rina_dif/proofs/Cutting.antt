@@ -39,7 +39,7 @@ use Rattle.rina_dif.specs.Shown.{seen_of}
 use Rattle.rina_dif.specs.declared.processes.LinkLoss.{LinkLoss}
 use Rattle.rina_dif.specs.Unlinking.{FindsEnd, FindsLostAt, FindsNoneLeft, LosesAs, LosesLast, LosesLastIn, LosesThenStops, LosesWith, held_here, with_lost}
 use Rattle.rina_dif.proofs.Causing.{failed_below, failed_caused}
-use Rattle.rina_dif.proofs.Keeping.{home_set}
+use Rattle.rina_dif.proofs.Keeping.{home_set, kept_house}
 use Rattle.rina_dif.proofs.Leaves.{has_process, shown_at}
 use Rattle.rina_dif.proofs.Owning.{arrived_seen}
 use Rattle.rina_dif.proofs.Unlinked.{after, after_holds, first_lost, has_agent, has_member, keeps_links, lost_with, then_closed}
@@ -174,7 +174,7 @@ last_fails d at node lost port loss links flows p p' g' place_is clock_is lt her
     let by : FailFirst lines node (Below l.link.port) (length d.flows.journal.ends) (seen_of mid) (seen_of d') = subst (λ (z : Port). FailFirst lines node (Below z) (length d.flows.journal.ends) (seen_of mid) (seen_of d')) told.0 fails in
     let there : slice_get mid.processes at ≡ Some p1 = slice_get-set_same d.processes at p p1 is in
     let twice : slice_set mid.processes at p' ≡ slice_set d.processes at p' = set-set d.processes at p1 p' in
-    let house = home_set mid lines below at p1 p' (slice_set d.processes at p') holds there refl (record { links = refl; routes = refl; places = λ qos link. refl }) (sym twice) in (
+    let house = home_set mid lines below at p1 p' (slice_set d.processes at p') holds there refl (kept_house _ _ refl refl refl) (sym twice) in (
       lost_with d lines below at lost loss more m.0 p p1 links k.0 g' place_is clock_is m.1 is k.1 (goes k.0 k.1) are s.loses room ends h finds node d' refl (inl (told.1, by)),
       record {
         tied = all.1;

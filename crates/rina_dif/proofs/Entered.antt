@@ -61,7 +61,6 @@ managed_entered is_static members plans now ps old new app address name small h 
       let managed : (a : Agent) → a ≡ g.agent → a.links ≡ was.0.agent.links → Knows now m p.links a → AreRoutesOf a members p.routes → TellsNeighbours a → IsManaged is_static members plans now m p g = λ a is same knows routes tells. record {
         knows = subst (λ (z : Agent). Knows now m p.links z) is knows;
         planned = λ still. subst (λ (z : Agent). IsPlanned members plans m p.links z) is (planned_links members plans m p.links was.0.agent a same (one.planned still));
-        none_made = one.none_made;
         bounded = one.bounded;
         routes = subst (λ (z : Agent). AreRoutesOf z members p.routes) is routes;
         tells = subst (λ (z : Agent). TellsNeighbours z) is tells;

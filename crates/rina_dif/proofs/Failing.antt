@@ -1,5 +1,5 @@
 -- A flow fails in a clock step for its stated causes alone.
-use Rattle.std.proofs.Common.{◌≡◌, ◌∙◌, ℕ, ◌+◌, ◌*◌, ◌<◌, ◌≤◌, ◌⊎◌, Bool, false, List, length, slice_get, slice_set, Option, Some, None, Result, Ok, Err, refl, sym, ap, subst, inl, inr}
+use Rattle.std.proofs.Common.{◌≡◌, ◌∙◌, ℕ, ◌+◌, ◌*◌, ◌<◌, ◌≤◌, ◌⊎◌, Bool, true, false, List, length, slice_get, slice_set, Option, Some, None, Result, Ok, Err, refl, sym, ap, subst, inl, inr}
 use Rattle.std.proofs.lemmas.Option.{slice_get-get_or}
 use Rattle.rina_cube.specs.declared.Cube.{Cube}
 use Rattle.rina_iface.specs.declared.ends.End.{End}
@@ -37,7 +37,6 @@ use Rattle.rina_dif.specs.Shown.{seen_of}
 use Rattle.rina_dif.specs.Steps.{AtHome}
 use Rattle.rina_dif.specs.Unlinking.{NoneLeft, links_without}
 use Rattle.rina_dif.proofs.Cutting.{after_loss, failed_ends}
-use Rattle.rina_dif.proofs.MessageSteps.{message_noted}
 
 same_some : {X : Type 0} (o : Option X) (a b : X) → o ≡ Some a → o ≡ Some b → a ≡ b
 same_some o a b h g = cc
@@ -157,31 +156,31 @@ late_lost d lines below node number d' s at end end' fail old is failed =
       | inr k ↦ inl (kept (subst (λ (z : DifSeen). slice_get z.ends at ≡ Some end') k.1 is))
     ]
 
-late_served : (d : Dif) (lines : List Direction) (below : Seen) (node : ℕ) (done : ClockStep) (d' : Dif) (lines' : List Direction) (below' : Seen) → Holds d lines below → Serves d lines below node done d' lines' below' → Late d lines below d'.flows.journal.ends
-late_served d lines below node done d' lines' below' h (inl flow) = late_flow d lines below node done (seen_of d') lines' h flow.does
-late_served d lines below node done d' lines' below' h (inr link) = late_same d lines below d'.flows.journal.ends (ap (λ (z : Dif). z.flows.journal.ends) link.0.only)
+late_served : (d : Dif) (lines : List Direction) (below mid : Seen) (node : ℕ) (done : ClockStep) (d' : Dif) (lines' : List Direction) (below' : Seen) → Holds d lines below → Serves d lines mid node done d' lines' below' → Late d lines below d'.flows.journal.ends
+late_served d lines below mid node done d' lines' below' h (inl flow) = late_flow d lines below node done (seen_of d') lines' h flow.does
+late_served d lines below mid node done d' lines' below' h (inr link) = late_same d lines below d'.flows.journal.ends (ap (λ (z : Dif). z.flows.journal.ends) link.0.only)
 
-late_any : (d : Dif) (lines : List Direction) (below : Seen) (node : ℕ) (done : ClockStep) (d' : Dif) (lines' : List Direction) (below' : Seen) → Holds d lines below → ServesAny d lines below node done d' lines' below' → Late d lines below d'.flows.journal.ends
-late_any d lines below node done d' lines' below' h (inl served) = late_served d lines below node done d' lines' below' h served.0
-late_any d lines below node done d' lines' below' h (inr message) = late_same d lines below d'.flows.journal.ends (ap (λ (z : Dif). z.flows.journal.ends) message.0.sends.only)
+late_any : (d : Dif) (lines : List Direction) (below mid : Seen) (node : ℕ) (done : ClockStep) (d' : Dif) (lines' : List Direction) (below' : Seen) → Holds d lines below → ServesAny d lines mid node done d' lines' below' → Late d lines below d'.flows.journal.ends
+late_any d lines below mid node done d' lines' below' h (inl served) = late_served d lines below mid node done d' lines' below' h served.0
+late_any d lines below mid node done d' lines' below' h (inr message) = late_same d lines below d'.flows.journal.ends (ap (λ (z : Dif). z.flows.journal.ends) message.0.sends.only)
 
 late_step : (d : Dif) (lines : List Direction) (below : Seen) (node : ℕ) (done : ClockStep) (d' : Dif) (lines' : List Direction) (below' : Seen) → Holds d lines below → Steps d lines below node done d' lines' below' → Late d lines below d'.flows.journal.ends
-late_step d lines below node step.Idle d' lines' below' h s = late_any d lines below node step.Idle d' lines' below' h s.1
-late_step d lines below node (step.Gone cep) d' lines' below' h s = late_any d lines below node (step.Gone cep) d' lines' below' h s.1
-late_step d lines below node (step.GaveUp num) d' lines' below' h s = late_any d lines below node (step.GaveUp num) d' lines' below' h s.1
-late_step d lines below node (step.Ack cep) d' lines' below' h s = late_any d lines below node (step.Ack cep) d' lines' below' h s.1
-late_step d lines below node (step.Again num) d' lines' below' h s = late_any d lines below node (step.Again num) d' lines' below' h s.1
+late_step d lines below node step.Idle d' lines' below' h s = late_any d lines below s.1.mid node step.Idle d' lines' below' h s.1.serves
+late_step d lines below node (step.Gone cep) d' lines' below' h s = late_any d lines below s.1.mid node (step.Gone cep) d' lines' below' h s.1.serves
+late_step d lines below node (step.GaveUp num) d' lines' below' h s = late_any d lines below s.1.mid node (step.GaveUp num) d' lines' below' h s.1.serves
+late_step d lines below node (step.Ack cep) d' lines' below' h s = late_any d lines below s.1.mid node (step.Ack cep) d' lines' below' h s.1.serves
+late_step d lines below node (step.Again num) d' lines' below' h s = late_any d lines below s.1.mid node (step.Again num) d' lines' below' h s.1.serves
 late_step d lines below node (step.LinkLost link) d' lines' below' h s = late_lost d lines below node link d' s.0
-late_step d lines below node (step.LinkNew link) d' lines' below' h s = late_any d lines below node (step.LinkNew link) d' lines' below' h s.1
-late_step d lines below node (step.Timeout port) d' lines' below' h s = late_any d lines below node (step.Timeout port) d' lines' below' h s.1
-late_step d lines below node (step.Message link) d' lines' below' h s = late_any d lines below node (step.Message link) d' lines' below' h s.1
+late_step d lines below node (step.LinkNew link) d' lines' below' h s = late_same d lines below d'.flows.journal.ends (ap (λ (z : Dif). z.flows.journal.ends) s.1.takes.only)
+late_step d lines below node (step.Timeout port) d' lines' below' h s = late_any d lines below s.1.mid node (step.Timeout port) d' lines' below' h s.1.serves
+late_step d lines below node (step.Message link) d' lines' below' h s = late_any d lines below s.1.mid node (step.Message link) d' lines' below' h s.1.serves
 
 pub fails_late : (d : Dif) (lines : List Direction) (below : Seen) (node : ℕ) (r : Result ClockStep StepError) (d' : Dif) (below' : Seen) → Holds d lines below → StepsHere d lines below node r d' below' → FailsLate d lines below d'
 unfolding Late
-fails_late d lines below node (Ok done) d' below' h s = late_step d lines below node done d' s.0.lines' below' h s.0.does
-fails_late d lines below node (Err why.Memory) d' below' h s = late_same d lines below d'.flows.journal.ends (ap (λ (z : DifSeen). z.ends) s.0.0)
-fails_late d lines below node (Err why.NoIpc) d' below' h s = absurd s.0
-fails_late d lines below node (Err why.NoLink) d' below' h s = absurd s.0
+fails_late d lines below node (Ok done) d' below' h s = late_step d lines below node done d' s.lines' below' h s.does
+fails_late d lines below node (Err why.Memory) d' below' h s = late_same d lines below d'.flows.journal.ends (ap (λ (z : DifSeen). z.ends) s.0)
+fails_late d lines below node (Err why.NoIpc) d' below' h s = absurd s
+fails_late d lines below node (Err why.NoLink) d' below' h s = absurd s
 fails_late d lines below node (Err (why.CountSpent need left)) d' below' h s = late_same d lines below d'.flows.journal.ends (ap (λ (z : DifSeen). z.ends) s.1)
 
 -- nothing was done
@@ -201,48 +200,30 @@ not_home o P Q is q = subst (λ (z : Option ℕ). AtHome z P Q) (sym is) q
 pub noted : (d : Dif) (lines : List Direction) (below : Seen) (failed : Bool) → d.failed ≡ false → Holds d lines below → Holds (record d { failed = failed }) lines below
 noted d lines below failed alive h = record { tied = h.tied; standing = h.standing; carrying = h.carrying; numbered = h.numbered; accounted = h.accounted; caused = h.caused; written_off = h.written_off; housed = h.housed; managed = h.managed; enrolled = h.enrolled; connected = h.connected; flooded = λ still. h.flooded alive }
 
--- so for a step
-lost_noted : (d : Dif) (lines : List Direction) (below : Seen) (node number : ℕ) (d' : Dif) (failed : Bool) → StepsLost d lines below node number d' → StepsLost d lines below node number (record d' { failed = failed })
-lost_noted d lines below node number d' failed s = record { i = s.i; at_home = s.at_home; loses = record { between = s.loses.between; loses = s.loses.loses; offs = s.loses.offs; closes = s.loses.closes; fails = s.loses.fails } }
+-- it has failed where a step wants memory alone
+none_failed : (d' : Dif) (failed : Bool) (done : ClockStep) → d'.failed ≡ false → (failed ≡ true → Ok done ≡ Err why.Memory) → d' ≡ record d' { failed = failed }
+none_failed d' true done alive only = (let wants = only refl in absurd cc)
+none_failed d' false done alive only = ap (λ (b : Bool). record d' { failed = b }) alive
 
-served_noted : (d : Dif) (lines : List Direction) (below : Seen) (node : ℕ) (done : ClockStep) (d' : Dif) (lines' : List Direction) (below' : Seen) (failed : Bool) → Serves d lines below node done d' lines' below' → Serves d lines below node done (record d' { failed = failed }) lines' below'
-served_noted d lines below node done d' lines' below' failed (inl flow) = inl (record { does = flow.does; same = flow.same; same_below = flow.same_below; first = flow.first })
-served_noted d lines below node done d' lines' below' failed (inr link) = inr (record { i = link.0.i; at_home = link.0.at_home; only = ap (λ (z : Dif). record z { failed = failed }) link.0.only; does = link.0.does }, link.1)
-
-any_noted : (d : Dif) (lines : List Direction) (below : Seen) (node : ℕ) (done : ClockStep) (d' : Dif) (lines' : List Direction) (below' : Seen) (failed : Bool) → ServesAny d lines below node done d' lines' below' → ServesAny d lines below node done (record d' { failed = failed }) lines' below'
-any_noted d lines below node done d' lines' below' failed (inl served) = inl (served_noted d lines below node done d' lines' below' failed served.0, served.1)
-any_noted d lines below node done d' lines' below' failed (inr message) = inr (message_noted d lines below node done d' failed message.0, message.1, message.2)
-
-step_noted : (d : Dif) (lines : List Direction) (below : Seen) (node : ℕ) (done : ClockStep) (d' : Dif) (lines' : List Direction) (below' : Seen) (failed : Bool) → Steps d lines below node done d' lines' below' → Steps d lines below node done (record d' { failed = failed }) lines' below'
-step_noted d lines below node step.Idle d' lines' below' failed s = (s.0, any_noted d lines below node step.Idle d' lines' below' failed s.1)
-step_noted d lines below node (step.Gone cep) d' lines' below' failed s = (s.0, any_noted d lines below node (step.Gone cep) d' lines' below' failed s.1)
-step_noted d lines below node (step.GaveUp num) d' lines' below' failed s = (s.0, any_noted d lines below node (step.GaveUp num) d' lines' below' failed s.1)
-step_noted d lines below node (step.Ack cep) d' lines' below' failed s = (s.0, any_noted d lines below node (step.Ack cep) d' lines' below' failed s.1)
-step_noted d lines below node (step.Again num) d' lines' below' failed s = (s.0, any_noted d lines below node (step.Again num) d' lines' below' failed s.1)
-step_noted d lines below node (step.LinkLost link) d' lines' below' failed s = (lost_noted d lines below node link d' failed s.0, s.1, s.2)
-step_noted d lines below node (step.LinkNew link) d' lines' below' failed s = (s.0, any_noted d lines below node (step.LinkNew link) d' lines' below' failed s.1)
-step_noted d lines below node (step.Timeout port) d' lines' below' failed s = (s.0, any_noted d lines below node (step.Timeout port) d' lines' below' failed s.1)
-step_noted d lines below node (step.Message link) d' lines' below' failed s = (s.0, any_noted d lines below node (step.Message link) d' lines' below' failed s.1)
-
-steps_by : (d : Dif) (lines : List Direction) (below : Seen) (node i : ℕ) (r : Result ClockStep StepError) (d' : Dif) (below' : Seen) (failed : Bool) → d'.failed ≡ false → home node (config_of d.settings).members ≡ Some i → StepsHere d lines below node r d' below' → ManagesStep r (home_of d node) d below node d'.managements → ClockSteps d lines below node r (record d' { failed = failed }) below'
-steps_by d lines below node i (Ok done) d' below' failed alive here s managed = record {
-  lines' = s.0.lines';
-  does = at_home (home node (config_of d.settings).members) i (λ n. StepsOk d lines below node (Ok done) (record d' { failed = failed }) s.0.lines' below') _ here (step_noted d lines below node done d' s.0.lines' below' failed s.0.does);
+steps_by : (d : Dif) (lines : List Direction) (below : Seen) (node i : ℕ) (r : Result ClockStep StepError) (d' : Dif) (below' : Seen) (failed : Bool) → d'.failed ≡ false → (failed ≡ true → r ≡ Err why.Memory) → home node (config_of d.settings).members ≡ Some i → StepsHere d lines below node r d' below' → ManagesStep r (home_of d node) d below node d'.managements → ClockSteps d lines below node r (record d' { failed = failed }) below'
+steps_by d lines below node i (Ok done) d' below' failed alive only here s managed = subst (λ (z : Dif). ClockSteps d lines below node (Ok done) z below') (none_failed d' failed done alive only) (record {
+  lines' = s.lines';
+  does = at_home (home node (config_of d.settings).members) i (λ n. StepsOk d lines below node (Ok done) d' s.lines' below') _ here s.does;
   managed = managed;
-  holds = noted d' s.0.lines' below' failed alive s.0.holds;
-}
-steps_by d lines below node i (Err why.Memory) d' below' failed alive here s managed = record { lines' = lines; does = (s.0.0, refl, s.1); managed = managed; holds = noted d' lines below' failed alive s.0.1 }
-steps_by d lines below node i (Err why.NoIpc) d' below' failed alive here s managed = absurd s.0
-steps_by d lines below node i (Err why.NoLink) d' below' failed alive here s managed = absurd s.0
-steps_by d lines below node i (Err (why.CountSpent need left)) d' below' failed alive here s managed = record { lines' = lines; does = (s.0, s.1, refl, s.3); managed = managed; holds = noted d' lines below' failed alive s.2 }
+  holds = s.holds;
+})
+steps_by d lines below node i (Err why.Memory) d' below' failed alive only here s managed = record { lines' = lines; does = (s.0, refl, s.2); managed = managed; holds = noted d' lines below' failed alive s.1 }
+steps_by d lines below node i (Err why.NoIpc) d' below' failed alive only here s managed = absurd s
+steps_by d lines below node i (Err why.NoLink) d' below' failed alive only here s managed = absurd s
+steps_by d lines below node i (Err (why.CountSpent need left)) d' below' failed alive only here s managed = record { lines' = lines; does = (s.0, s.1, refl, s.3); managed = managed; holds = noted d' lines below' failed alive s.2 }
 
-pub steps_home : (d : Dif) (lines : List Direction) (below : Seen) (node i : ℕ) (r r' : Result ClockStep StepError) (d' : Dif) (below' : Seen) (failed : Bool) → d'.failed ≡ false → home node (config_of d.settings).members ≡ Some i → r' ≡ r → StepsHere d lines below node r d' below' → ManagesStep r (Some i) d below node d'.managements → ClockSteps d lines below node r' (record d' { failed = failed }) below'
-steps_home d lines below node i r r' d' below' failed alive here same s managed =
+pub steps_home : (d : Dif) (lines : List Direction) (below : Seen) (node i : ℕ) (r r' : Result ClockStep StepError) (d' : Dif) (below' : Seen) (failed : Bool) → d'.failed ≡ false → (failed ≡ true → r ≡ Err why.Memory) → home node (config_of d.settings).members ≡ Some i → r' ≡ r → StepsHere d lines below node r d' below' → ManagesStep r (Some i) d below node d'.managements → ClockSteps d lines below node r' (record d' { failed = failed }) below'
+steps_home d lines below node i r r' d' below' failed alive only here same s managed =
     let there : ManagesStep r (home_of d node) d below node d'.managements = subst (λ (o : Option ℕ). ManagesStep r o d below node d'.managements) (sym here) managed in
-    subst (λ (v : Result ClockStep StepError). ClockSteps d lines below node v (record d' { failed = failed }) below') (sym same) (steps_by d lines below node i r d' below' failed alive here s there)
+    subst (λ (v : Result ClockStep StepError). ClockSteps d lines below node v (record d' { failed = failed }) below') (sym same) (steps_by d lines below node i r d' below' failed alive only here s there)
 
 pub steps_none : (d : Dif) (lines : List Direction) (below : Seen) (node : ℕ) → Holds d lines below → ClockSteps d lines below node (Err why.Memory) d below
-steps_none d lines below node h = record { lines' = lines; does = (refl, refl, refl); managed = refl; holds = h }
+steps_none d lines below node h = record { lines' = lines; does = (refl, refl, inl refl); managed = refl; holds = h }
 
 pub steps_nowhere : (d : Dif) (lines : List Direction) (below : Seen) (node : ℕ) → home node (config_of d.settings).members ≡ None → Holds d lines below → ClockSteps d lines below node (Err why.NoIpc) d below
 steps_nowhere d lines below node none h = record { lines' = lines; does = not_home (home node (config_of d.settings).members) (λ i. StepsOk d lines below node (Err why.NoIpc) d lines below) _ none (refl, refl, refl, refl); managed = refl; holds = h }

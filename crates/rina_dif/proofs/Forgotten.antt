@@ -47,7 +47,9 @@ use Rattle.rina_dif.proofs.Closing.{served_holds}
 use Rattle.rina_dif.proofs.Elsewhere.{by_process}
 use Rattle.rina_dif.proofs.Leaves.{has_process, shown_at, stepped}
 use Rattle.rina_dif.proofs.OnLinks.{unnamed_more}
+use Rattle.rina_dif.proofs.Keeping.{kept_house}
 use Rattle.rina_dif.proofs.Served.{same_channels, with_served}
+use Rattle.rina_dif.proofs.NamedByPlace.{named_journal}
 
 -- The lines that it writes
 
@@ -111,6 +113,7 @@ module _ (d : Dif) (below : Seen) (i place number : ℕ) (flows : Flows) (p : Ip
     standing = subst (λ (z : ChannelsSeen). IsStanding z gone.lines' ps' below) (sym (same_channels (config_of d.settings) d.connections.manage d.clock d.connections.channels d.connections.flows flows gone.ids gone.same))
         (forgotten_stands m links.lines (seen_of d).processes ps' below place gone.offs gone.lines' links.standing gone.forgets (noting_leaves_links (seen_of d).processes i ps' gone_notes));
     paired = links.paired;
+    named = named_journal d.connections.flows flows gone.same links.named;
     each = λ j n q live. links.each j n q ((noting_leaves_links (seen_of d).processes i ps' gone_notes).live j n q live);
   }
 
@@ -139,7 +142,7 @@ forgets_link d i place number true flows ps lt due does lines below h =
     let connected = gone_connected d below i place number flows p.0 f.between x.0 here p.1 f.forgets f.unnamed h.connected in
     let notes = gone_notes d below i place number flows p.0 f.between x.0 here p.1 f.forgets f.unnamed h.connected in
     let written = gone_written d below i place number flows p.0 f.between x.0 here p.1 f.forgets f.unnamed h.connected h.written_off in
-    let holds : Holds (with_served d flows (slice_set d.processes i new)) lines below = served_holds d lines below i p.0 new (record d.connections { flows = flows }) refl h p.1 refl (record { links = refl; routes = refl; places = λ qos link. refl }) (i, inr notes) written connected (λ alive. journal_floods d flows (gone_does d below i place number flows p.0 f.between x.0 here p.1 f.forgets f.unnamed h.connected).behind.journal (h.flooded alive)) in (
+    let holds : Holds (with_served d flows (slice_set d.processes i new)) lines below = served_holds d lines below i p.0 new (record d.connections { flows = flows }) refl h p.1 refl (kept_house _ _ refl refl refl) (i, inr notes) written connected (λ alive. journal_floods d flows (gone_does d below i place number flows p.0 f.between x.0 here p.1 f.forgets f.unnamed h.connected).behind.journal (h.flooded alive)) in (
       λ links. subst (λ (qs : List IpcProcess). ForgetsLink d links.lines i place (seen_of (with_served d flows qs)) flows) (sym x.2) (gone_does d below i place number flows p.0 f.between x.0 here p.1 f.forgets f.unnamed links),
       subst (λ (qs : List IpcProcess). Holds (with_served d flows qs) lines below) (sym x.2) holds,
     )

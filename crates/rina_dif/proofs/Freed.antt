@@ -67,7 +67,7 @@ use Rattle.rina_dif.proofs.Enrolled.{stay_same}
 use Rattle.rina_dif.proofs.Causing.{closed_caused, freed_caused}
 use Rattle.rina_dif.proofs.GivenBack.{gives_back, used_there}
 use Rattle.rina_dif.proofs.Facing.{unchanged}
-use Rattle.rina_dif.proofs.Keeping.{home_set}
+use Rattle.rina_dif.proofs.Keeping.{home_set, kept_house}
 use Rattle.rina_dif.proofs.Leaves.{has_process, shown_at}
 use Rattle.rina_dif.proofs.Owning.{arrived_seen}
 use Rattle.rina_channel.proofs.Leaving.{ending_leaves}
@@ -99,7 +99,7 @@ closes d i at end (Ok done) flows ps lt here is allocated stops rest held rests 
     let same : end ≡ e.end = same_end (slice_get d.flows.journal.ends at) end e.end is e.is_conn.end in
     let there : home e.end.port.node g.members ≡ Some i = subst (λ (z : End). home z.port.node g.members ≡ Some i) same here in
     let ended : IsEnded (seen_of d) lines at Closed (seen_of d') = is_ended (seen_of d) lines at i Closed (process_of p.0) s.offs flows.journal.ends held (seen_of d') e there (shown_at d i p.0 p.1) (subst (λ (z : End). GivesBack (seen_of d) at z held) same (gives_back d lines below h i at end rest held is here rests gave)) seen in
-    let house = home_set d lines below i p.0 (record p.0 { ledger = x.0 }) ps h p.1 refl (record { links = refl; routes = refl; places = λ qos link. refl }) x.2 in
+    let house = home_set d lines below i p.0 (record p.0 { ledger = x.0 }) ps h p.1 refl (kept_house _ _ refl refl refl) x.2 in
     record {
       end = end;
       is_end = is;

@@ -138,7 +138,7 @@ by_eq : (manage : Cube) (b : Bool) → b ≡ true → cond b (Some manage) None 
 by_eq manage true h = refl
 by_eq manage false h = cc
 
-manage_there : (g : Config) (manage : Cube) → cube_by manage.id (link_config g manage).cubes ≡ Some manage
+pub manage_there : (g : Config) (manage : Cube) → cube_by manage.id (link_config g manage).cubes ≡ Some manage
 manage_there g manage = elim (eqb_tells manage.id manage.id) [
   | inl t ↦ by_eq manage (eqb manage.id manage.id) t.0
   | inr f ↦ absurd (f.1 refl)
@@ -345,6 +345,7 @@ all_stand s manage clock ports ps n c le made below links =
       tied = was.tied;
       standing = was.standing;
       paired = was.paired;
+      named = made.named;
       each = λ i k port live.
           let p = map_at process_of ps i live.process live.is_process in
           let within = slice_get_within ps i p.0 p.1 in

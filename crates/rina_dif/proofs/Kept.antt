@@ -33,5 +33,5 @@ quiet_known law d lines below i j steps first last m n p a b is_p quiet =
     let managed = a.holds.managed.each i first p m a.is_member is_p a.is_management in
     let same = law d.laid.is_static d.laid.links (members_seen d) i j steps m.agent n.agent (a.holds.flooded a.alive) quiet (its_agent d.managements i m a.is_management) (its_agent d.managements j n b.is_management) in (
       λ e from. (let one = same e in let own = managed.knows.own e from in ((λ has. own.0 (one.1 has)), (λ has. one.0 (own.1 has)))),
-      λ still. (planned_hops d.settings.members d.laid.links first d.clock p.links m.agent (managed.planned still) managed.knows, managed.none_made still),
+      λ still. planned_hops d.settings.members d.laid.links first d.clock p.links m.agent (managed.planned still) managed.knows,
     )

@@ -35,7 +35,7 @@ use Rattle.rina_dif.specs.Holding.{Holds, Stands}
 use Rattle.rina_dif.specs.Shown.{seen_of}
 use Rattle.rina_dif.specs.Timely.{ForgetsAs, GivesUpAs, IsHomeEnd, WithLedger}
 use Rattle.rina_dif.proofs.Causing.{given_up_caused, process_caused}
-use Rattle.rina_dif.proofs.Keeping.{AreHome, home_set}
+use Rattle.rina_dif.proofs.Keeping.{AreHome, home_set, kept_house}
 use Rattle.rina_dif.proofs.Leaves.{has_process, shown_at}
 use Rattle.rina_dif.proofs.Owning.{arrived_seen}
 use Rattle.rina_channel.proofs.Leaving.{ending_leaves, forgetting_leaves}
@@ -68,7 +68,7 @@ unchanged d i p flows ps ledger is same lines new =
     ap (λ (z : Flows). record d { flows = z; processes = ps }) same ∙ ap (λ (z : List IpcProcess). record d { processes = z }) all
 
 home_on : (d : Dif) (i : ℕ) (p : IpcProcess) (ps : List IpcProcess) (ledger : List Off) (lines : List Direction) (below : Seen) → Holds d lines below → slice_get d.processes i ≡ Some p → ps ≡ slice_set d.processes i (record p { ledger = ledger }) → AreHome d ps
-home_on d i p ps ledger lines below h is new = home_set d lines below i p (record p { ledger = ledger }) ps h is refl (record { links = refl; routes = refl; places = λ qos link. refl }) new
+home_on d i p ps ledger lines below h is new = home_set d lines below i p (record p { ledger = ledger }) ps h is refl (kept_house _ _ refl refl refl) new
 
 -- the same end is at home
 at_home : (d : Dif) (i at : ℕ) (end : End) → (here : IsHomeEnd d i at) → slice_get d.flows.journal.ends at ≡ Some end → home end.port.node (config_of d.settings).members ≡ Some i

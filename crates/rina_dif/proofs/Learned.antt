@@ -1,5 +1,5 @@
 -- What a member of a DIF knows once it handled the messages of a link, and that the DIF holds.
-use Rattle.std.proofs.Common.{◌≡◌, ◌∙◌, ℕ, ◌<◌, ◌≤◌, Bool, true, false, List, [], drop, length, slice_get, slice_set, Option, Some, None, Ok, refl, sym, ap, subst}
+use Rattle.std.proofs.Common.{◌≡◌, ◌∙◌, ℕ, ◌<◌, ◌≤◌, Bool, true, false, List, drop, length, slice_get, slice_set, Option, Some, None, Ok, refl, sym, ap, subst}
 use Rattle.std.specs.Prelude.{IsSome}
 use Rattle.std.proofs.lemmas.Option.{same_Some, slice_get_within}
 use Rattle.rina_iface.specs.declared.ends.End.{End}
@@ -26,7 +26,7 @@ use Rattle.rina_flood.specs.Members.{IsRunOf, MembersSeen}
 use Rattle.rina_flows.specs.declared.flows.Flows.{Flows}
 use Rattle.rina_member.specs.declared.management.Management.{Management}
 use Rattle.rina_member.specs.Handling.{OwnIsNewest}
-use Rattle.rina_member.specs.Knowing.{AreRoutesOf, IsPlanned, Knows, made_links}
+use Rattle.rina_member.specs.Knowing.{AreRoutesOf, IsPlanned, Knows}
 use Rattle.rina_member.specs.Managements.{Handles, HandlesSdu}
 use Rattle.rina_member.specs.Short.{IsShort, TellsNeighbours}
 use Rattle.rina_member.proofs.Enrolled.{handles_enrolled}
@@ -41,6 +41,7 @@ use Rattle.rina_dif.specs.Holding.{AreHoused, Holds, IsHoused, LinksStand, Stand
 use Rattle.rina_dif.specs.LinkDue.{IsLinkEnd}
 use Rattle.rina_dif.specs.Managing.{StayEnrolled, nodes_with}
 use Rattle.rina_dif.specs.Routing.{SetsRoutes, with_routes}
+use Rattle.rina_dif.proofs.WaitsOnLive.{same_on_live}
 use Rattle.rina_dif.proofs.Handling.{first_turn, handled_caused, handled_connected, handled_flows, handled_written, last_turn, managed_both, with_handled}
 use Rattle.rina_dif.proofs.Elsewhere.{by_process}
 use Rattle.rina_dif.proofs.Enrolled.{enrolled_after, nodes_more}
@@ -125,6 +126,9 @@ module _ (what : WhatComes) (d : Dif) (i place number : ℕ) (here : IsLinkEnd d
           queues = λ dst n qos hop known.
               let x = knows_live d.clock member p.links after.agent d.settings.members routes dst n both.0.knows are hop in
               subst (λ (k : ℕ). IsSome (queue_place qos k (process_of p).queues)) x.is_number (old.links x.place qos x.link x.stands x.live known);
+          cubes = old.cubes;
+          whole = old.whole;
+          waits = same_on_live (process_of p) (process_of (with_routes p routes)) refl refl old.waits;
         }) h.housed
 
     -- all of them were passed
@@ -153,7 +157,6 @@ module _ (what : WhatComes) (d : Dif) (i place number : ℕ) (here : IsLinkEnd d
           managed = managed_both d.laid.is_static d.settings.members d.laid.links d.clock d.processes d.managements i p (with_routes p routes) g after h.managed is_p is_g (λ m is_m. record {
             knows = subst (λ (z : Member). Knows d.clock z p.links after.agent) (same_Some member m (sym is_member ∙ is_m)) both.0.knows;
             planned = λ still. subst (λ (z : Member). IsPlanned d.settings.members d.laid.links z p.links after.agent) (same_Some member m (sym is_member ∙ is_m)) (both.0.planned still);
-            none_made = λ still. subst (λ (z : Member). made_links d.settings.members d.laid.links z p.links ≡ []) (same_Some member m (sym is_member ∙ is_m)) (own.none_made still);
             bounded = own.bounded;
             routes = are;
             tells = both.0.tells;

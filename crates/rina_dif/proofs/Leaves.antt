@@ -1,5 +1,5 @@
 -- What leaves a DIF.
-use Rattle.std.proofs.Common.{◌≡◌, ◌∙◌, ℕ, ◌<◌, List, length, map, drop, get_or, slice_get, slice_set, option_map, Option, Some, Result, Ok, Err, refl, sym, ap, subst, arith}
+use Rattle.std.proofs.Common.{◌≡◌, ◌∙◌, ℕ, ◌<◌, List, length, map, get_or, slice_get, slice_set, option_map, Option, Some, Result, Ok, Err, refl, sym, ap, subst, arith}
 use Rattle.std.proofs.lemmas.List.{length-map, map-set}
 use Rattle.std.proofs.lemmas.Option.{slice_get-map, slice_get_read}
 use Rattle.rina_base.specs.declared.cause.Cause.{Cause}
@@ -41,7 +41,7 @@ use Rattle.rina_dif.specs.Holding.{Holds, Stands}
 use Rattle.rina_dif.specs.Shown.{seen_of}
 use Rattle.rina_dif.specs.Steps.{AsksAt, AsksHome, AtHome, Leaves, OutsAt, WillGo}
 use Rattle.rina_dif.proofs.Causing.{outs_caused}
-use Rattle.rina_dif.proofs.Keeping.{IsSameHouse, home_set, house_is, same_house, same_places}
+use Rattle.rina_dif.proofs.Keeping.{IsSameHouse, home_set, house_is, same_house, taken_house}
 use Rattle.rina_dif.proofs.Connected.{outs_connected}
 use Rattle.rina_channel.specs.Channels.{HasLive}
 use Rattle.rina_channel.proofs.Putting.{live_same}
@@ -102,8 +102,8 @@ dif_outs refuses d below at n r ps below' st lt leaves =
 
 -- the queues keep their places
 offs_same : (refuses : Port → ℕ → Option SendError) (g : Config) (now : ℕ) (p : Process) (below : Seen) (n : ℕ) (key : Key) (cause : Cause) (p' : Process) (below' : Seen) → Offs refuses g now p below n key cause p' below' → IsSameHouse p p'
-offs_same refuses g now p below n key (causes.Expired left charge) p' below' s = house_is p _ p' s.new_is (record { links = refl; routes = refl; places = λ qos link. same_places qos link p.queues s.place s.queue (drop 1 s.queue.items) s.head.is_queue })
-offs_same refuses g now p below n key (causes.LinkDown port) p' below' s = house_is p _ p' s.new_is (record { links = refl; routes = refl; places = λ qos link. same_places qos link p.queues s.place s.queue (drop 1 s.queue.items) s.head.is_queue })
+offs_same refuses g now p below n key (causes.Expired left charge) p' below' s = house_is p _ p' s.new_is (taken_house p _ s.place s.queue s.head.is_queue refl refl refl)
+offs_same refuses g now p below n key (causes.LinkDown port) p' below' s = house_is p _ p' s.new_is (taken_house p _ s.place s.queue s.head.is_queue refl refl refl)
 offs_same refuses g now p below n key (causes.NoRoute dst) p' below' s = absurd s
 offs_same refuses g now p below n key (causes.QueueFull cap) p' below' s = absurd s
 offs_same refuses g now p below n key (causes.NoConnection cep) p' below' s = absurd s
@@ -116,7 +116,7 @@ offs_same refuses g now p below n key (causes.Broken missing) p' below' s = absu
 
 goes_same : (refuses : Port → ℕ → Option SendError) (g : Config) (now : ℕ) (p : Process) (below : Seen) (n : ℕ) (r : Result OutStep StepError) (p' : Process) (below' : Seen) → Goes refuses g now p below n r p' below' → IsSameHouse p p'
 goes_same refuses g now p below n (Ok out.Idle) p' below' s = house_is p p p' s.2 (same_house p)
-goes_same refuses g now p below n (Ok (out.Sent key)) p' below' s = house_is p _ p' s.new_is (record { links = refl; routes = refl; places = λ qos link. same_places qos link p.queues s.place s.queue (drop 1 s.queue.items) s.head.is_queue })
+goes_same refuses g now p below n (Ok (out.Sent key)) p' below' s = house_is p _ p' s.new_is (taken_house p _ s.place s.queue s.head.is_queue refl refl refl)
 goes_same refuses g now p below n (Ok (out.Off key cause)) p' below' s = offs_same refuses g now p below n key cause p' below' s
 goes_same refuses g now p below n (Ok (out.Held why)) p' below' s = house_is p p p' s.1 (same_house p)
 goes_same refuses g now p below n (Err Memory) p' below' s = house_is p p p' s.0 (same_house p)

@@ -1,6 +1,8 @@
 mod Absent
 pub mod Among
 pub mod Asked
+pub mod AskedBelow
+pub mod AskedInTurn
 pub mod Bare
 pub mod Barred
 pub mod Below
@@ -10,6 +12,8 @@ pub mod Brought
 pub mod Causing
 pub mod Channels
 pub mod Claimed
+pub mod ClaimedBelow
+pub mod ClaimedFirst
 pub mod Clocked
 pub mod Closing
 pub mod Connected
@@ -18,6 +22,8 @@ mod Drawing
 pub mod Cutting
 pub mod Elsewhere
 pub mod Enrolled
+pub mod EnrolBeside
+pub mod Enrols
 pub mod Entered
 pub mod Facing
 pub mod Failing
@@ -25,6 +31,7 @@ pub mod FlowIds
 pub mod Flooding
 pub mod FloodingStart
 pub mod Forgotten
+pub mod FoundAwaiting
 pub mod Freed
 pub mod FreedBelow
 pub mod GivenBack
@@ -39,15 +46,26 @@ pub mod Leaves
 pub mod LinkEnds
 pub mod LinkFirst
 pub mod LinksLive
+pub mod LinkNumbers
 pub mod LinkFlows
+pub mod LinkGained
+pub mod LinkQueues
+pub mod LinkTaken
 pub mod Linked
 pub mod Made
 pub mod Managed
 pub mod MessageSteps
 pub mod Moves
 pub mod Named
+pub mod NamedByPlace
 pub mod Naming
+pub mod NewConnected
+pub mod NewFlooded
+pub mod NewHolds
 pub mod NewLinks
+pub mod NewLive
+pub mod NewManaged
+pub mod NewLinkHolds
 pub mod Offered
 pub mod OnLinks
 pub mod OpenEnd
@@ -72,9 +90,11 @@ pub mod Showing
 pub mod Sound
 pub mod Started
 pub mod Taken
+pub mod TakenLinks
 pub mod Told
 pub mod Undue
 pub mod Unlinked
+pub mod WaitsOnLive
 pub mod Ways
 pub mod Wiring
 pub mod Written

@@ -1,12 +1,12 @@
 -- The IPC processes of a DIF while its links are laid.
-use Rattle.std.proofs.Common.{◌≡◌, ◌≢◌, ◌∙◌, ℕ, zero, suc, ◌+◌, ◌<◌, ◌==◌, Bool, true, false, cond, get_or, List, [], ◌∷◌, ◌++◌, length, slice_get, slice_set, Option, Some, Result, Ok, Err, refl, sym, ap, subst, arith, inl, inr}
+use Rattle.std.proofs.Common.{◌≡◌, ◌≢◌, ◌∙◌, ℕ, zero, suc, ◌+◌, ◌<◌, ◌==◌, Bool, true, false, cond, get_or, List, [], ◌∷◌, ◌++◌, length, map, slice_get, slice_set, Option, Some, Result, Ok, Err, refl, sym, ap, subst, arith, inl, inr}
 use Rattle.std.specs.Prelude.{Contains, IsSome, OnOk, position}
 use Rattle.std.specs.List.{list_any, position_from}
 use Rattle.std.proofs.lemmas.Iterator.Adapters.{position_from-zero}
 use Rattle.std.proofs.lemmas.Bool.Decides.{eqb_tells}
 use Rattle.std.proofs.lemmas.List.Elements.{filter-append}
 use Rattle.std.proofs.lemmas.List.{append-nil}
-use Rattle.std.proofs.lemmas.Option.{get_or_from_slice_get, slice_get-get_or}
+use Rattle.std.proofs.lemmas.Option.{get_or_from_slice_get, slice_get-get_or, slice_get_within}
 use Rattle.rina_base.specs.declared.memory.Memory.{Memory}
 use Rattle.rina_base.specs.declared.number.Port.{Port}
 use Rattle.rina_iface.proofs.Grown.{pushed_at, still_at}
@@ -16,6 +16,9 @@ use Rattle.rina_queue.proofs.Places.{first_passes}
 use Rattle.rina_data.specs.declared.link.Link.{Link}
 use Rattle.rina_data.specs.declared.process.IpcProcess.{IpcProcess}
 use Rattle.rina_data.specs.declared.settings.Settings.{Settings}
+use Rattle.rina_data.specs.Configs.{config_of, cube_by}
+use Rattle.rina_data.specs.Fitting.{IsQos}
+use Rattle.rina_cube.specs.declared.Cube.{Cube}
 use Rattle.rina_dif.specs.Building.{IsBare, queue_ids}
 use Rattle.rina_dif.specs.Laying.{AddsLink, AddsLinkAt, IsLinkedUp, links_from, ports_at}
 use Rattle.rina_dif.proofs.Putting.{stands_there}
@@ -85,10 +88,29 @@ in_either P [] ys all more k x is = more k x is
 in_either P (z ∷ xs) ys all more zero x is = all zero x is
 in_either P (z ∷ xs) ys all more (suc k) x is = in_either P xs ys (λ j y h. all (suc j) y h) more k x is
 
-new_one : (cap link : ℕ) (cubes : List ℕ) (k : ℕ) (q : Waiting) → slice_get (no_queues cap link cubes) k ≡ Some q → (qos : ℕ) × (q ≡ no_items cap link qos)
+pub new_one : (cap link : ℕ) (cubes : List ℕ) (k : ℕ) (q : Waiting) → slice_get (no_queues cap link cubes) k ≡ Some q → (qos : ℕ) × (q ≡ no_items cap link qos)
 new_one cap link [] k q is = cc
 new_one cap link (c ∷ cs) zero q is = (c, cc)
 new_one cap link (c ∷ cs) (suc k) q is = new_one cap link cs k q is
+
+-- The cubes that have queues
+
+its_id : (qos : ℕ) (cubes : List Cube) (cube : Cube) → cube_by qos cubes ≡ Some cube → (k : ℕ) × (slice_get (map (λ (c : Cube). c.id) cubes) k ≡ Some qos)
+its_id qos [] cube found = absurd cc
+its_id qos (c ∷ cs) cube found = elim (eqb_tells c.id qos) [
+  | inl t ↦ (zero, ap (λ (n : ℕ). Some n) t.1)
+  | inr u ↦
+      let later = its_id qos cs cube (rw u.0 at found) in
+      (suc later.0, later.1)
+]
+
+contains : (xs : List ℕ) (k x : ℕ) → slice_get xs k ≡ Some x → Contains xs x
+contains xs k x is = (k, slice_get_within xs k x is, get_or_from_slice_get xs k x x is)
+
+-- management, and each cube
+pub has_id : (s : Settings) (qos : ℕ) → IsQos (config_of s) qos → Contains (queue_ids s.cubes) qos
+has_id s qos (inl none) = contains (queue_ids s.cubes) 0 qos (ap (λ (n : ℕ). Some n) (sym none))
+has_id s qos (inr known) = (let at = its_id qos s.cubes known.0 known.1 in contains (queue_ids s.cubes) (suc at.0) qos at.1)
 
 -- Where a queue stands
 
@@ -108,11 +130,15 @@ from_some p n (y ∷ ys) (suc k) x is passes =
 pub passes_some : {X : Type 0} (p : X → Bool) (xs : List X) (k : ℕ) (x : X) → slice_get xs k ≡ Some x → p x ≡ true → IsSome (position p xs)
 passes_some p xs k x is passes = subst (λ (o : Option ℕ). IsSome o) (sym (position_from-zero p xs)) (from_some p 0 xs k x is passes)
 
-still_there : (qos link : ℕ) (qs more : List Waiting) → IsSome (queue_place qos link qs) → IsSome (queue_place qos link (qs ++ more))
+pub still_there : (qos link : ℕ) (qs more : List Waiting) → IsSome (queue_place qos link qs) → IsSome (queue_place qos link (qs ++ more))
 still_there qos link qs more some =
     let t = stands_there qos link qs some in
     let q = first_passes (is_queue qos link) qs t.place t.found in
     passes_some (is_queue qos link) (qs ++ more) t.place q.0 (still_at qs more t.place q.0 q.1.stands) q.1.passes
+
+pub its_link : (qos link : ℕ) (q : Waiting) → is_queue qos link q ≡ true → q.link ≡ link
+unfolding is_queue
+its_link qos link q is = grind arith
 
 is_new : (cap link qos : ℕ) → is_queue qos link (no_items cap link qos) ≡ true
 unfolding is_queue
@@ -128,7 +154,7 @@ behind [] ys k n y at is = (let same : n ≡ k = omega (arith, at) in rw same is
 behind (x ∷ xs) ys k zero y at is = absurd (omega (arith, at))
 behind (x ∷ xs) ys k (suc n) y at is = behind xs ys k n y (omega (arith, at)) is
 
-new_there : (cap link qos : ℕ) (cubes : List ℕ) (qs : List Waiting) → Contains cubes qos → IsSome (queue_place qos link (qs ++ no_queues cap link cubes))
+pub new_there : (cap link qos : ℕ) (cubes : List ℕ) (qs : List Waiting) → Contains cubes qos → IsSome (queue_place qos link (qs ++ no_queues cap link cubes))
 new_there cap link qos cubes qs has =
     let at = contained cubes qos has in
     passes_some (is_queue qos link) (qs ++ no_queues cap link cubes) (length qs + at.0) (no_items cap link qos) (behind qs (no_queues cap link cubes) at.0 (length qs + at.0) (no_items cap link qos) refl (new_place cap link cubes at.0 qos at.1)) (is_new cap link qos)

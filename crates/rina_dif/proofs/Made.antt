@@ -1,11 +1,10 @@
 -- A DIF that was made as the plan of a stack says.
-use Rattle.std.proofs.Common.{◌≡◌, ◌∙◌, ℕ, zero, suc, ◌+◌, ◌==◌, ◌⊎◌, ◌-◌, ◌*◌, ◌^◌, Bool, cond, All, List, [], ◌∷◌, length, map, slice_get, option_map, Option, Some, None, true, false, sym, ap, subst, arith, inl, inr}
-use Rattle.std.specs.Prelude.{Contains, IsSome}
+use Rattle.std.proofs.Common.{◌≡◌, ◌∙◌, ℕ, zero, suc, ◌+◌, ◌==◌, ◌⊎◌, ◌-◌, ◌*◌, ◌^◌, ◌<◌, Bool, cond, All, List, [], ◌∷◌, length, map, slice_get, option_map, Option, Some, None, true, false, sym, ap, subst, arith, inl, inr}
+use Rattle.std.specs.Prelude.{IsSome}
 use Rattle.std.proofs.lemmas.Bool.Decides.{eqb_tells}
 use Rattle.std.proofs.lemmas.Bool.{false≢true}
-use Rattle.std.proofs.lemmas.Option.{get_or_from_slice_get, slice_get_within}
+use Rattle.std.proofs.lemmas.Option.{slice_get_within}
 use Rattle.rina_base.specs.declared.number.Port.{Port}
-use Rattle.rina_cube.specs.declared.Cube.{Cube}
 use Rattle.rina_iface.specs.declared.ask.Fixed.{Fixed}
 use Rattle.rina_iface.specs.declared.ends.End.{End}
 use Rattle.rina_iface.specs.Journal.{AreKept}
@@ -13,7 +12,9 @@ use Rattle.rina_iface.specs.Seen.{Seen, end_of}
 use Rattle.rina_plan.specs.declared.dif.DifPlan.{DifPlan}
 use Rattle.rina_plan.specs.declared.dif.MemberPlan.{MemberPlan}
 use Rattle.rina_queue.specs.declared.queue.Queued.{Queued}
-use Rattle.rina_queue.proofs.Places.{kept_at}
+use Rattle.rina_queue.specs.declared.queue.Queue.{Queue as Waiting}
+use Rattle.rina_queue.specs.Queues.{is_queue}
+use Rattle.rina_queue.proofs.Places.{first_passes, kept_at}
 use Rattle.rina_stack.specs.declared.plan.Plan.{Plan}
 use Rattle.rina_stack.specs.Plan.{IsPlan}
 use Rattle.rina_data.specs.declared.link.Link.{Link}
@@ -21,7 +22,7 @@ use Rattle.rina_data.specs.declared.process.IpcProcess.{IpcProcess}
 use Rattle.rina_data.specs.declared.settings.Member.{Member as Kept}
 use Rattle.rina_data.specs.declared.settings.Settings.{Settings}
 use Rattle.rina_dif_law.specs.Cloud.{IsMine, Waits}
-use Rattle.rina_data.specs.Configs.{Member, config_of, cube_by, member_of}
+use Rattle.rina_data.specs.Configs.{Member, config_of, member_of}
 use Rattle.rina_data.specs.Deciding.{plain, process_of}
 use Rattle.rina_data.specs.Process.{Process, Queue, queue_place}
 use Rattle.rina_dif_law.specs.Standing.{HasLink, IsConfig, IsInside, IsLinked}
@@ -33,8 +34,8 @@ use Rattle.rina_ids.specs.Members.{AreUndrawn}
 use Rattle.rina_member.specs.Short.{AreNamed}
 use Rattle.rina_pci.specs.Spelling.{AreWidths}
 use Rattle.rina_dif.specs.declared.dif.Dif.{Dif}
-use Rattle.rina_dif.specs.Building.{IsFree, queue_ids}
-use Rattle.rina_dif.specs.Holding.{Stands}
+use Rattle.rina_dif.specs.Building.{IsFree}
+use Rattle.rina_dif.specs.Holding.{AreWhole, Stands}
 use Rattle.rina_dif.specs.Laying.{AreLaid, AreLinkedUp, AreSettings, BindsAll, CanLay, IsLaidIn, IsLinkedUp, IsNew, IsNewProcess, Takes, ends_of, links_from, ports_at}
 use Rattle.rina_dif.specs.Planned.{ipc_name, link_fixed, links_in, links_of, members_from, processes_before, settings_by, settings_in, settings_of}
 use Rattle.rina_dif.specs.Managing.{AreEnrolledBy, AreManagedBy, AreStarted, states_of}
@@ -48,7 +49,10 @@ use Rattle.rina_member.proofs.Knowing.{knows_live}
 use Rattle.rina_dif.proofs.Managed.{its_agent}
 use Rattle.rina_dif.proofs.Routed.{laid_still}
 use Rattle.rina_dif.proofs.Sound.{are_members, is_config}
-use Rattle.rina_dif.proofs.Started.{first_routed, made_managed, no_plans, started_still}
+use Rattle.rina_dif.proofs.Linked.{has_id, its_link}
+use Rattle.rina_dif.proofs.Putting.{stands_there}
+use Rattle.rina_dif.proofs.WaitsOnLive.{none_on_live}
+use Rattle.rina_dif.proofs.Started.{are_numbered, first_routed, made_managed, no_plans, started_still}
 use Rattle.rina_dif.specs.Connected.{AreConnected}
 use Rattle.rina_dif.specs.Shown.{seen_of}
 use Rattle.rina_dif.specs.Flooding.{AreFlooding}
@@ -100,26 +104,21 @@ idle s ports ps i n item up w =
 
 -- Its queues
 
-its_id : (qos : ℕ) (cubes : List Cube) (cube : Cube) → cube_by qos cubes ≡ Some cube → (k : ℕ) × (slice_get (map (λ (c : Cube). c.id) cubes) k ≡ Some qos)
-its_id qos [] cube found = absurd cc
-its_id qos (c ∷ cs) cube found = elim (eqb_tells c.id qos) [
-  | inl t ↦ (zero, ap (λ (n : ℕ). Some n) t.1)
-  | inr u ↦
-      let later = its_id qos cs cube (rw u.0 at found) in
-      (suc later.0, later.1)
-]
-
-contained : (xs : List ℕ) (k x : ℕ) → slice_get xs k ≡ Some x → Contains xs x
-contained xs k x is = (k, slice_get_within xs k x is, get_or_from_slice_get xs k x x is)
-
--- a queue for management, and for each cube
-has_id : (s : Settings) (qos : ℕ) → IsQos (config_of s) qos → Contains (queue_ids s.cubes) qos
-has_id s qos (inl none) = contained (queue_ids s.cubes) 0 qos (ap (λ (n : ℕ). Some n) (sym none))
-has_id s qos (inr known) = (let at = its_id qos s.cubes known.0 known.1 in contained (queue_ids s.cubes) (suc at.0) qos at.1)
-
 -- each link has them
 has_place : (s : Settings) (node : ℕ) (ports : List Port) (p : IpcProcess) (place qos : ℕ) (link : Link) → IsLinkedUp s node ports p → slice_get p.links place ≡ Some link → IsQos (config_of s) qos → IsSome (queue_place qos link.number (process_of p).queues)
 has_place s node ports p place qos link up is known = subst (λ (o : Option ℕ). IsSome o) (sym (same_place qos link.number p.queues.queues.items)) (up.there place qos link is (up.ids.all qos (has_id s qos known)))
+
+-- a number that has a queue is that of a link
+has_whole : (s : Settings) (node : ℕ) (ports : List Port) (p : IpcProcess) → IsLinkedUp s node ports p → AreWhole (config_of s) (process_of p).queues
+has_whole s node ports p up number a b some known =
+    let qs : List Waiting = p.queues.queues.items in
+    let t = stands_there a number qs (subst (λ (o : Option ℕ). IsSome o) (same_place a number qs) some) in
+    let q = first_passes (is_queue a number) qs t.place t.found in
+    let its : q.0.link ≡ number = its_link a number q.0 q.1.passes in
+    let below : q.0.link < length p.links = up.known t.place q.0 q.1.stands in
+    let l = there p.links number (omega (arith, below, its)) in
+    let numbered : l.0.number ≡ number = are_numbered (ports_at node ports) number l.0 (ap (λ (ls : List Link). slice_get ls number) (sym up.links) ∙ l.1) in
+    subst (λ (n : ℕ). IsSome (queue_place b n (process_of p).queues)) numbered (has_place s node ports p number b l.0 up l.1 known)
 
 -- It stands
 
@@ -163,6 +162,9 @@ made_stands plan i dif d old new kept sound at are clock ends conns undrawn free
                 let one = managed.each k m.0 p g.0 m.1 is g.1 in
                 let own = knows_live d.clock m.0 p.links g.0.agent d.settings.members p.routes dst link one.knows one.routes hop in
                 subst (λ (n : ℕ). IsSome (queue_place qos n (process_of p).queues)) own.is_number (has_place d.settings m.0.node (ends_of ports) p own.place qos own.link up own.stands known);
+            cubes = λ qos known. up.ids.all qos (has_id d.settings qos known);
+            whole = has_whole d.settings m.0.node (ends_of ports) p up;
+            waits = none_on_live (process_of p) (λ place queue there. (let q = map_at plain p.queues.queues.items place queue there in ap (λ (z : Queue). z.items) (sym q.2) ∙ up.empty place q.0 q.1));
           }) (subst (λ (l : Layout). AreManagedBy l.is_static d.settings.members l.links d.clock d.processes d.managements) (sym same) managed) (subst (λ (l : Layout). AreEnrolledBy l.is_static d.settings.members d.settings.admits (states_of d.managements) d.enrolled) (sym same) (made_enrolled plan i dif d bare are members was.up.aligned started nodes)) connected floods,
     )
 

@@ -14,12 +14,12 @@ use Rattle.rina_data.specs.declared.settings.Member.{Member}
 use Rattle.rina_data.proofs.Finding.{there}
 use Rattle.rina_graph.specs.declared.graph.Edge.{Edge}
 use Rattle.rina_route.specs.declared.link.Link.{Link as Hop}
-use Rattle.rina_member.specs.Knowing.{AreRoutesOf, IsPlanned, Knows, all_claims, hops_of, made_links}
-use Rattle.rina_member.specs.Routing.{AreRoutesOver, edges_from}
+use Rattle.rina_member.specs.Knowing.{AreRoutesOf, IsPlanned, Knows, all_claims, hops_of}
+use Rattle.rina_member.specs.Routing.{AreRoutesOver}
 use Rattle.rina_member.specs.Short.{TellsNeighbours}
 use Rattle.rina_member.proofs.Knowing.{knows_later, knows_routes}
 use Rattle.rina_member.proofs.Losing.{loses}
-use Rattle.rina_member.proofs.Planned.{loses_planned, planned_hops, still_laid}
+use Rattle.rina_member.proofs.Planned.{loses_planned, planned_hops}
 use Rattle.rina_agent.specs.declared.agent.Agent.{Agent}
 use Rattle.rina_member.specs.Managements.{without_flow, without_flows}
 use Rattle.rina_dif.specs.declared.dif.Dif.{Dif}
@@ -39,7 +39,7 @@ is_among xs k x is = (k, slice_get_within xs k x is, get_or_from_slice_get xs k 
 
 -- its next hops are over its live links and what its items claim
 pub managed_routed : (is_static : Bool) (members : List Member) (plans : List LinkPlan) (now : ℕ) (ps : List IpcProcess) (managements : List Management) → AreManagedBy is_static members plans now ps managements → HaveRoutes is_static members plans ps managements
-managed_routed is_static members plans now ps managements h k m p g is here at = (let one = h.each k m p g is here at in (knows_routes now m p.links g.agent members p.routes one.knows one.routes, λ still. (planned_hops members plans m now p.links g.agent (one.planned still) one.knows, one.none_made still)))
+managed_routed is_static members plans now ps managements h k m p g is here at = (let one = h.each k m p g is here at in (knows_routes now m p.links g.agent members p.routes one.knows one.routes, λ still. planned_hops members plans m now p.links g.agent (one.planned still) one.knows))
 
 -- whatever these claim
 pub routed_at : (is_static : Bool) (members : List Member) (plans : List LinkPlan) (now : ℕ) (ps : List IpcProcess) (managements : List Management) (k : ℕ) (m : Member) (p : IpcProcess) → AreManagedBy is_static members plans now ps managements → slice_get members k ≡ Some m → slice_get ps k ≡ Some p
@@ -51,7 +51,7 @@ pub managed_later : (is_static : Bool) (members : List Member) (plans : List Lin
 managed_later is_static members plans now now' ps managements le h = record {
   laid_out = h.laid_out;
   aligned = h.aligned;
-  each = λ k m p g is here at. (let one = h.each k m p g is here at in record { knows = knows_later now now' m p.links g.agent le one.knows; planned = one.planned; none_made = one.none_made; bounded = one.bounded; routes = one.routes; tells = one.tells });
+  each = λ k m p g is here at. (let one = h.each k m p g is here at in record { knows = knows_later now now' m p.links g.agent le one.knows; planned = one.planned; bounded = one.bounded; routes = one.routes; tells = one.tells });
 }
 
 -- One IPC process changes
@@ -60,7 +60,6 @@ moved : (is_static : Bool) (members : List Member) (plans : List LinkPlan) (now 
 moved is_static members plans now m p p' g links routes h = record {
   knows = subst (λ (ls : List Link). Knows now m ls g.agent) (sym links) h.knows;
   planned = λ still. subst (λ (ls : List Link). IsPlanned members plans m ls g.agent) (sym links) (h.planned still);
-  none_made = λ still. ap (λ (ls : List Link). made_links members plans m ls) links ∙ h.none_made still;
   bounded = subst AreBounded (sym links) h.bounded;
   routes = subst (λ (rs : List Route). AreRoutesOf g.agent members rs) (sym routes) h.routes;
   tells = h.tells;
@@ -95,7 +94,6 @@ managed_shown is_static members plans now ps old new same h = record {
       record {
         knows = subst (λ (a : Agent). Knows now m p.links a) agent one.knows;
         planned = λ still. subst (λ (a : Agent). IsPlanned members plans m p.links a) agent (one.planned still);
-        none_made = one.none_made;
         bounded = one.bounded;
         routes = subst (λ (a : Agent). AreRoutesOf a members p.routes) agent one.routes;
         tells = subst (λ (a : Agent). TellsNeighbours a) agent one.tells;
@@ -154,7 +152,6 @@ managed_lost is_static members plans now ps managements at m p p' g g' place lin
     let after : IsManaged is_static members plans now m p' g' = record {
       knows = subst (λ (ls : List Link). Knows now m ls g'.agent) (sym links_are) knows;
       planned = λ still. subst (λ (ls : List Link). IsPlanned members plans m ls g'.agent) (sym links_are) (loses_planned members plans now m p.links g.agent g'.agent place link was.knows (was.planned still) stands live loss.loses);
-      none_made = λ still. ap (λ (ls : List Link). made_links members plans m ls) links_are ∙ still_laid (length (edges_from members m.node plans)) p.links place (record link { live = false }) (was.none_made still);
       bounded = subst AreBounded (sym links_are) (lost_bounded p.links place link stands was.bounded);
       routes = subst (λ (rs : List Route). AreRoutesOf g'.agent members rs) (sym routes_are) loss.routes;
       tells = loses_near now link.number g.agent g'.agent loss.loses was.tells;

@@ -15,11 +15,11 @@ use Rattle.rina_dif_law.specs.Sending.{home}
 use Rattle.rina_flows.specs.declared.due.Item.{Item}
 use Rattle.rina_dif.specs.declared.dif.Dif.{Dif}
 use Rattle.rina_dif.specs.Changing.{ManagesStep}
-use Rattle.rina_dif.specs.Clocking.{IsStill, Serves, ServesAnyHere, ServesHere, ServesMessage, item_of}
+use Rattle.rina_dif.specs.Clocking.{IsStill, Serves, ServesAnyHere, ServesHere, item_of}
 use Rattle.rina_dif.specs.Holding.{Holds, LinksStand, Stands}
 use Rattle.rina_dif.specs.Lower.{FreesBelow}
 use Rattle.rina_dif.specs.MessageSteps.{IfIdle, NoMessageAt}
-use Rattle.rina_dif.specs.Messaging.{IsMessageDue, OffersAmong, OffersFirst}
+use Rattle.rina_dif.specs.Messaging.{IsMessageDue, OffersAmong}
 use Rattle.rina_dif.specs.Shown.{seen_of}
 use Rattle.rina_dif.specs.Telling.{TellNeighbours}
 use Rattle.rina_dif.proofs.Leaves.{has_process}
@@ -141,23 +141,3 @@ pub message_manages : (d : Dif) (lines : List Direction) (below : Seen) (i node 
 message_manages d lines below i node number d1 d' same h offers =
     let o = subst (λ (z : Dif). OffersAmong z lines below i (Ok (Some number)) d') same offers in
     (o.0 h.connected).offers.managements
-
--- Whether an allocation failed is not seen
-
-offers_noted : (d : Dif) (below : Seen) (links : List Direction) (i number : ℕ) (d' : Dif) (failed : Bool) → OffersFirst d below links i number d' → OffersFirst d below links i number (record d' { failed = failed })
-offers_noted d below links i number d' failed f =
-    let o = f.offers in
-    record { place = f.place; offers = record { due = o.due; num = o.num; links' = o.links'; offered = o.offered; ids = o.ids; tied = o.tied; managements = o.managements }; least = f.least }
-
-pub message_noted : (d : Dif) (lines : List Direction) (below : Seen) (node : ℕ) (done : ClockStep) (d' : Dif) (failed : Bool) → ServesMessage d lines below node done d' → ServesMessage d lines below node done (record d' { failed = failed })
-message_noted d lines below node done d' failed m = record {
-  number = m.number;
-  told = m.told;
-  still = m.still;
-  sends = record {
-    i = m.sends.i;
-    at_home = m.sends.at_home;
-    only = ap (λ (z : Dif). record z { failed = failed }) m.sends.only;
-    offers = λ links. offers_noted d below links.lines m.sends.i m.number d' failed (m.sends.offers links);
-  };
-}

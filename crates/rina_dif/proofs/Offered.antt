@@ -57,6 +57,7 @@ use Rattle.rina_channel.specs.Rows.{IsOfferedOn}
 use Rattle.rina_channel.proofs.Calls.{calls_that_offer_do}
 use Rattle.rina_channel.proofs.Fitting.{messages_serve_links}
 use Rattle.rina_channel.proofs.Putting.{offered_stands}
+use Rattle.rina_member.specs.Knowing.{HasLiveLink}
 use Rattle.rina_dif.specs.declared.dif.Dif.{Dif}
 use Rattle.rina_dif.specs.declared.send.FirstHop.{FirstHop}
 use Rattle.rina_dif.specs.Changing.{changed_at, changed_if}
@@ -73,13 +74,14 @@ use Rattle.rina_dif.proofs.Bare.{map_at}
 use Rattle.rina_dif.proofs.Closing.{served_holds}
 use Rattle.rina_dif.proofs.Enrolled.{enrolled_on, states_set}
 use Rattle.rina_dif.proofs.Flooding.{side_at}
-use Rattle.rina_dif.proofs.Keeping.{IsSameHouse, house_is, same_places}
+use Rattle.rina_dif.proofs.Keeping.{IsSameHouse, house_is, put_house}
 use Rattle.rina_dif.proofs.Leaves.{shown_at}
 use Rattle.rina_dif.proofs.LinksLive.{serving_lives}
 use Rattle.rina_member.proofs.TellsNear.{sends_near}
 use Rattle.rina_dif.proofs.Sent.{IsPut, is_put, pieces_count}
-use Rattle.rina_dif.proofs.Served.{put_lawful}
+use Rattle.rina_dif.proofs.Served.{live_there, put_lawful}
 use Rattle.rina_dif.proofs.LinkEnds.{StayLive, end_there, ends_stay, set_stays}
+use Rattle.rina_dif.proofs.NamedByPlace.{named_set}
 
 same_some : {X : Type 0} (o : Option X) (a b : X) → o ≡ Some a → o ≡ Some b → a ≡ b
 same_some o a b h g = cc
@@ -102,7 +104,6 @@ sent_managed : (is_static : Bool) (members : List Member) (plans : List LinkPlan
 sent_managed is_static members plans now m p g number h = record {
   knows = sends_knowing now m p.links g number h.knows;
   planned = λ still. planned_links members plans m p.links g.agent (with_sent g number).agent refl (h.planned still);
-  none_made = h.none_made;
   bounded = h.bounded;
   routes = record { rows = h.routes.rows; hops = h.routes.hops; are = h.routes.are };
   tells = sends_near number g h.tells;
@@ -283,6 +284,7 @@ module _ (d : Dif) (i place number : ℕ) (sdu : List ℕ) (conn : Conn) (made :
       tied = o.tied;
       standing = offered_stands (channels_seen (config_of d.settings) d.clock d.connections) links.lines (seen_of d).processes below place o.parts made.num _ o.lines' ps' links.standing offered_on;
       paired = links.paired;
+      named = named_set old.journal.ends flows.journal.ends place o.offers.end _ o.offers.place.is_conn.end refl o.offers.offered.3 links.named;
       each = λ j n q live. links.each j n q (serving_lives (config_of d.settings) d.clock (seen_of d).processes ps' offers_serve j n q live);
     }
 
@@ -295,7 +297,7 @@ module _ (d : Dif) (i place number : ℕ) (sdu : List ℕ) (conn : Conn) (made :
   pub offered_holds : Holds after_it lines below
   offered_holds =
       let links = h.connected in
-      let house : IsSameHouse (process_of r.process) (process_of put_process) = house_is (process_of r.process) _ (process_of put_process) put.new_is (record { links = refl; routes = refl; places = λ qos link. same_places qos link (process_of r.process).queues put.place (plain put.queue) (put.queue.ring.items ++ items) put.is_queue.is_queue }) in
+      let house : IsSameHouse (process_of r.process) (process_of put_process) = house_is (process_of r.process) _ (process_of put_process) put.new_is (put_house (process_of r.process) 0 number put.place (plain put.queue) items put.is_queue (inr (subst (λ (n : ℕ). HasLiveLink r.process.links n) (sym r.here.number_is) (live_there d i place number r.process r.here r.is_process)))) in
       let written = put_lawful (seen_of d) i (process_of r.process) (process_of put_process) (shown_at d i r.process r.is_process) (ap (λ (z : Process). z.ledger) put.new_is) (ap (λ (z : Process). z.links) put.new_is) h.written_off in
       let s = served_holds (record d { failed = true }) lines below i r.process put_process (record d.connections { flows = flows }) refl (unfloods d lines below h) r.is_process (puts r.process r.is_process).1.kept house (offers_serve links) written (offers_connected links) (λ failed. absurd (true≢false failed)) in
       let o' = o links in

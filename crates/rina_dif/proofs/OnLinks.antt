@@ -67,6 +67,7 @@ use Rattle.rina_dif.proofs.Owning.{OfReceiver, noted_err, of_verdict}
 use Rattle.rina_dif.proofs.Settling.{off_house}
 use Rattle.rina_dif.proofs.Flooding.{said_floods, taken_said}
 use Rattle.rina_dif.proofs.LinkEnds.{live_floods}
+use Rattle.rina_dif.proofs.NamedByPlace.{taken_named}
 
 same_some : {X : Type 0} (o : Option X) (a b : X) → o ≡ Some a → o ≡ Some b → a ≡ b
 same_some o a b h g = cc
@@ -224,6 +225,7 @@ module _ (d : Dif) (at since : ℕ) (port : Port) (hop : Hop) (lines : List Dire
           tied = tied;
           standing = taking_on_links_stands m links (seen_of d).processes (map process_of ps) below port o.entry hop end dropped (after flows) links' kept h.connected.standing o.oldest o.opens link.1 in_time takes leaves;
           paired = h.connected.paired;
+          named = taken_named m links port hop.pdu dropped (after flows) links' end takes h.connected.named;
           each = λ i n q live. h.connected.each i n q (leaves.live i n q live);
         };
         channels = inr (record { for_link = link; dropped = dropped; takes = takes });

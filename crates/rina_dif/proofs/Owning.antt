@@ -42,7 +42,7 @@ use Rattle.rina_dif.specs.declared.dif.Dif.{Dif}
 use Rattle.rina_dif.specs.Holding.{Holds, Stands}
 use Rattle.rina_dif.specs.Shown.{seen_of}
 use Rattle.rina_dif.specs.Taking.{ArrivesTo, Comes, DecidesAt, IsOwn, IsThere, NotesAt, SettlesFor, took_of}
-use Rattle.rina_dif.proofs.Keeping.{AreHome, home_set, house_is, same_house}
+use Rattle.rina_dif.proofs.Keeping.{AreHome, home_set, house_is, kept_house, same_house}
 use Rattle.rina_dif.proofs.Leaves.{has_process, shown_at, stepped}
 use Rattle.rina_dif.proofs.Passed.{seen_flows}
 use Rattle.rina_dif.proofs.Settling.{decides_same, holds_unseen, off_house, unseen}
@@ -226,7 +226,7 @@ own_arrived d at since hop place cause flows ps lt own kind taken arrives lines 
     let d' : Dif = record d { flows = flows; processes = ps } in
     let seen = arrived_seen d at p.0 (in_.offs ++ lines_for hop.pdu cause) x.0 flows ps refl in_.ids ledger x.2 in
     let whole : IsArrived (seen_of d) lines at (process_of p.0) hop.pdu cause (seen_of d') in_.lines' = is_arrived (seen_of d) lines at (process_of p.0) hop.pdu place cause in_.offs flows.journal.ends in_.lines' (seen_of d') kind a allocated names seen in
-    let house = home_set d lines below at p.0 (record p.0 { ledger = x.0 }) ps h p.1 refl (record { links = refl; routes = refl; places = λ qos link. refl }) x.2 in
+    let house = home_set d lines below at p.0 (record p.0 { ledger = x.0 }) ps h p.1 refl (kept_house _ _ refl refl refl) x.2 in
     record {
       lines' = in_.lines';
       settled = λ member process q.

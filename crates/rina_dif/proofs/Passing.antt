@@ -24,6 +24,7 @@ use Rattle.rina_dif.specs.Handling.{PassesAll, PassesTimes}
 use Rattle.rina_dif.specs.Holding.{LinksStand}
 use Rattle.rina_dif.specs.Messaging.{manage_config}
 use Rattle.rina_dif.specs.Shown.{seen_of}
+use Rattle.rina_dif.proofs.NamedByPlace.{named_set}
 
 -- the DIF with other connections
 abbrev pub with_links : Dif → Flows → Dif
@@ -116,7 +117,7 @@ all_passed d place n flows below links end h is n_is =
 pub passed_stand : (d : Dif) (place n : ℕ) (flows : Flows) (below : Seen) (links : LinksStand d below) (end : End) → HavePassedAll d place n flows → At d.connections.flows.journal.ends place end → LinksStand (with_links d flows) below
 passed_stand d place n flows below links end h is =
     let p = h below links end is in
-    record { may = links.may; lines = p.links'; tied = p.tied; standing = p.standing; paired = links.paired; each = links.each }
+    record { may = links.may; lines = p.links'; tied = p.tied; standing = p.standing; paired = links.paired; named = named_set d.connections.flows.journal.ends flows.journal.ends place end (passed_to end (end.taken + n)) is refl p.ends links.named; each = links.each }
 
 -- In the loop
 

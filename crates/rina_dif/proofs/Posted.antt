@@ -1,5 +1,5 @@
 -- A PDU that is made beside a send: an acknowledgement, or a piece once more.
-use Rattle.std.proofs.Common.{◌≡◌, ◌∙◌, ℕ, ◌-◌, ◌<◌, Bool, true, false, cond, List, [], ◌∷◌, ◌++◌, length, option_map, get_or, slice_get, slice_set, Option, Some, None, Result, Ok, Err, refl, sym, ap, subst, inr}
+use Rattle.std.proofs.Common.{◌≡◌, ◌∙◌, ℕ, ◌-◌, ◌<◌, Bool, true, false, cond, List, [], ◌∷◌, length, option_map, get_or, slice_get, slice_set, Option, Some, None, Result, Ok, Err, refl, sym, ap, subst, inr, inl}
 use Rattle.std.proofs.lemmas.Bool.{false≢true}
 use Rattle.std.proofs.lemmas.Option.{slice_get_read}
 use Rattle.rina_base.specs.declared.cause.Cause.{Cause}
@@ -50,7 +50,7 @@ use Rattle.rina_dif.specs.Shown.{seen_of}
 use Rattle.rina_dif.specs.Taking.{RoutesAt}
 use Rattle.rina_dif.specs.Timely.{Acknowledges, AcknowledgesAs, ForwardsAt, IsHomeEnd, SendsAgain, SendsAgainAs}
 use Rattle.rina_dif.proofs.Causing.{process_caused}
-use Rattle.rina_dif.proofs.Keeping.{AreHome, IsSameHouse, home_set, house_is, same_house, same_places}
+use Rattle.rina_dif.proofs.Keeping.{AreHome, IsSameHouse, home_set, house_is, put_house, same_house}
 use Rattle.rina_dif.proofs.Leaves.{has_process, shown_at, stepped}
 use Rattle.rina_dif.proofs.Putting.{is_there}
 use Rattle.rina_dif.proofs.Settling.{holds_unseen, off_house, unseen}
@@ -72,7 +72,7 @@ forwards_one now hop r at ps x x' lt read forwards room p is =
 -- its queues keep their places
 forwards_same : (cap : ℕ) (p : Process) (now : ℕ) (hop : Hop) (r : Result Decision Memory) (p' : Process) → Forwards cap p now hop r p' → IsSameHouse p p'
 forwards_same cap p now hop (Ok decision.Here) p' s = absurd s
-forwards_same cap p now hop (Ok decision.Relayed) p' s = house_is p _ p' s.new_is (record { links = refl; routes = refl; places = λ qos link. same_places qos link p.queues s.place s.queue (s.queue.items ++ record { pdu = hop.pdu; left = hop.left; since = now } ∷ []) s.is_queue.is_queue })
+forwards_same cap p now hop (Ok decision.Relayed) p' s = house_is p _ p' s.new_is (put_house p hop.pdu.qos s.link s.place s.queue (record { pdu = hop.pdu; left = hop.left; since = now } ∷ []) s.is_queue (inl (hop.pdu.dst, s.next)))
 forwards_same cap p now hop (Ok (decision.Off (causes.NoRoute dst))) p' s = house_is p _ p' s.2 (off_house p _)
 forwards_same cap p now hop (Ok (decision.Off (causes.QueueFull n))) p' s = house_is p _ p' s.2 (off_house p _)
 forwards_same cap p now hop (Ok (decision.Off (causes.Expired left charge))) p' s = absurd s

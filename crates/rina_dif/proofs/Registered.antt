@@ -75,7 +75,6 @@ made_managed : (is_static : Bool) (members : List Kept) (plans : List LinkPlan) 
 made_managed is_static members plans now m p app g g' h one = record {
   knows = subst (λ (z : Agent). Knows now m p.links z) (sym h.makes) (makes_knowing now m p.links g.agent app h.value h.may one.knows);
   planned = λ still. subst (λ (z : Agent). IsPlanned members plans m p.links z) (sym h.makes) (planned_links members plans m p.links g.agent (made None g.agent now (key_of app) h.value) refl (one.planned still));
-  none_made = one.none_made;
   bounded = one.bounded;
   routes = subst (λ (z : Agent). AreRoutesOf z members p.routes) (sym h.makes) (made_routes members p.routes g.agent now app h.value one.knows.keys one.routes);
   tells = subst (λ (z : Agent). TellsNeighbours z) (sym h.makes) (makes_near g.agent now app h.value h.name h.own one.tells);

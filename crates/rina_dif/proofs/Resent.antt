@@ -48,6 +48,7 @@ use Rattle.rina_data.specs.Configs.{cube_by}
 use Rattle.rina_flows.proofs.Framed.{ids_at}
 use Rattle.rina_flows.specs.Tied.{conns_of}
 use Rattle.rina_dif.proofs.Served.{HasPosted, link_qos, posted_at, same_channels, with_served}
+use Rattle.rina_dif.proofs.NamedByPlace.{named_journal}
 
 same_some : {X : Type 0} (o : Option X) (a b : X) → o ≡ Some a → o ≡ Some b → a ≡ b
 same_some o a b h g = cc
@@ -101,6 +102,7 @@ module _ (d : Dif) (below : Seen) (i place number : ℕ) (conn : Conn) (pdu : Pd
     tied = has.tied;
     standing = subst (λ (m : ChannelsSeen). IsStanding m has.lines' ps' below) (sym (same_channels (config_of d.settings) d.connections.manage d.clock d.connections.channels old flows has.ids has.same)) (resent_stands (channels_seen (config_of d.settings) d.clock d.connections) links.lines (seen_of d).processes below place cause has.lines' ps' links.standing sent_posted);
     paired = links.paired;
+    named = named_journal old flows has.same links.named;
     each = λ j n q live. links.each j n q (serving_lives (config_of d.settings) d.clock (seen_of d).processes ps' (resending_serves_links (channels_seen (config_of d.settings) d.clock d.connections) links.lines (seen_of d).processes below place cause has.lines' ps' links.standing sent_posted) j n q live);
   }
 

@@ -37,6 +37,7 @@ use Rattle.rina_flows.specs.declared.due.Item.{Item}
 use Rattle.rina_flows.specs.declared.due.Item.TheVariants.{Ack, Again, GiveUp, Gone}
 use Rattle.rina_dif.specs.declared.dif.Dif.{Dif}
 use Rattle.rina_dif.specs.Changing.{ManagesStep}
+use Rattle.rina_dif.specs.Claiming.{NoneComesAt}
 use Rattle.rina_dif.specs.Clocking.{ClockSteps, ClockStepsAt, FailsLate, IsIdle, NoneDue, NoneLostAt}
 use Rattle.rina_dif.specs.Elsewhere.{home_of}
 use Rattle.rina_dif.specs.Holding.{Holds, LinksStand}
@@ -200,7 +201,7 @@ module _ (refuses : Port → ℕ → Option SendError) (may : ℕ → List Head 
 none_first : (number : ℕ) (g : Management) (waiting : Waiting) → g.agent.agenda ≡ [] → first_on number g.agent.agenda ≡ Some waiting → ⊥
 none_first number g waiting none first = (let no : None ≡ Some waiting = ap (first_on number) (sym none) ∙ first in absurd cc)
 
-module _ (until : ℕ) (d : Dif) (below : Seen) (node : ℕ) (before : d.clock < until) (rest : RestsUntil until d below) where
+module _ (until : ℕ) (d : Dif) (below : Seen) (node : ℕ) (before : d.clock < until) (rest : RestsUntil until d below) (none_comes : NoneComesAt d below node) where
   none_due : (item : Item) (lines : List Direction) → Holds d lines below → NoneDue item d lines node
   none_due item lines h = λ at due. false≢true ((rest.flows d.clock before at item (config_of d.settings) lines due.here.end h.standing.journal h.tied due.here.is_end due.here.allocated).1 due.due)
 
@@ -220,7 +221,7 @@ module _ (until : ℕ) (d : Dif) (below : Seen) (node : ℕ) (before : d.clock <
   ClockAnswer = (a : Result ClockStep StepError) × DoesNone a × ((lines : List Direction) → Holds d lines below → ClockStepsAt d lines below node a d lines below) × ManagesStep a (home_of d node) d below node d.managements
 
   clock_home : (h : Option ℕ) → home_of d node ≡ h → ClockAnswer
-  clock_home (Some i) is = (Ok clocks.Idle, tt, λ lines h. at_home (home_of d node) i _ _ is (none_lost, inl (inl (record { does = (is_idle lines h, refl, refl); same = refl; same_below = refl; first = λ k here links. ((no_link_due Gone k links, no_link_due GiveUp k links, no_link_due Ack k links), no_link_due Again k links) }), no_message)), refl)
+  clock_home (Some i) is = (Ok clocks.Idle, tt, λ lines h. at_home (home_of d node) i _ _ is (none_lost, record { mid = below; none = inl (none_comes, refl); holds = h; serves = inl (inl (record { does = (is_idle lines h, refl, refl); same = refl; same_below = refl; first = λ k here links. ((no_link_due Gone k links, no_link_due GiveUp k links, no_link_due Ack k links), no_link_due Again k links) }), no_message) }), refl)
   clock_home None is = (Err NoIpc, tt, λ lines h. not_home (home_of d node) _ _ is (refl, refl, refl, refl), refl)
 
   pub clock_rests : (a : Result ClockStep StepError) × DoesNone a × ((lines : List Direction) → Holds d lines below → ClockSteps d lines below node a d below)

@@ -1,5 +1,5 @@
 -- An SDU is sent on a flow of a DIF, or refused.
-use Rattle.std.proofs.Common.{◌≡◌, ◌≢◌, ◌∙◌, ℕ, ◌+◌, ◌-◌, ◌≤◌, Bool, true, List, [], ◌∷◌, ◌++◌, length, map, slice_get, slice_set, Option, Some, None, Result, Ok, Err, option_map, refl, suc, sym, ap, subst, arith, false}
+use Rattle.std.proofs.Common.{◌≡◌, ◌≢◌, ◌∙◌, ℕ, ◌+◌, ◌-◌, ◌≤◌, Bool, true, List, [], ◌∷◌, ◌++◌, length, map, slice_get, slice_set, Option, Some, None, Result, Ok, Err, option_map, refl, suc, sym, ap, subst, arith, false, inl}
 use Rattle.std.proofs.lemmas.Bool.Decides.{nat_tests}
 use Rattle.std.proofs.lemmas.List.{length-map, map-set}
 use Rattle.std.proofs.lemmas.Option.{same_Some, slice_get-map}
@@ -48,7 +48,7 @@ use Rattle.rina_dif.specs.Shown.{seen_of}
 use Rattle.rina_dif.specs.Whole.{IsDif}
 use Rattle.rina_dif.proofs.Causing.{offered_caused}
 use Rattle.rina_dif.proofs.Barred.{line_there, parts_of, past, sender_refusal}
-use Rattle.rina_dif.proofs.Keeping.{home_set, house_is, same_places}
+use Rattle.rina_dif.proofs.Keeping.{home_set, house_is, put_house}
 use Rattle.rina_dif.proofs.Putting.{waiting_there}
 use Rattle.rina_dif.proofs.Ways.{by_queue}
 use Rattle.rina_channel.proofs.Leaving.{sends_leave}
@@ -274,7 +274,7 @@ sends_made d at sdu way made flows ps a offers puts lines below h =
     let refused : refused_at (seen_of d) lines at o.parts ≡ None = past_all d lines below at sdu way q.line o.parts h a q.is_line o.cut.0 o.cut.1 ∙ ap (λ (r : Option Refusal). by_sender r None) free in
     let offer : Offers (seen_of d) lines at o.parts (Ok made.num) (seen_of d') o.lines' = (refused, o.cut.0, accepted d lines below at sdu way made flows put.0 ps h a o put.1 put.2) in
     let i = is_put d q.its_ids way (queued way.left d.clock made.pdus) a.goes.process put.0 (a.qos ∙ ap (λ (x : Ids). x.qos) s.ids_are) put.1 in
-    let house = house_is (process_of a.goes.process) _ (process_of put.0) i.new_is (record { links = refl; routes = refl; places = λ qos link. same_places qos link (process_of a.goes.process).queues i.place (plain i.queue) (i.queue.ring.items ++ queued way.left d.clock made.pdus) i.is_queue.is_queue }) in
+    let house = house_is (process_of a.goes.process) _ (process_of put.0) i.new_is (put_house (process_of a.goes.process) q.its_ids.qos way.link i.place (plain i.queue) (queued way.left d.clock made.pdus) i.is_queue (inl ((ids_of a.conn).far, a.goes.hop))) in
     let kept = home_set d lines below way.home a.goes.process put.0 ps h a.goes.is_process put.1.kept house put.2 in
     record {
       parts = o.parts;

@@ -1,5 +1,5 @@
 -- A management connection does what is due, and the DIF holds.
-use Rattle.std.proofs.Common.{◌≡◌, ◌∙◌, ℕ, ◌+◌, ◌-◌, ◌<◌, ◌≤◌, Bool, true, false, cond, List, [], ◌∷◌, ◌++◌, length, slice_get, slice_set, Option, Some, None, Result, Ok, Err, refl, sym, ap, subst, inl}
+use Rattle.std.proofs.Common.{◌≡◌, ◌∙◌, ℕ, ◌+◌, ◌-◌, ◌<◌, ◌≤◌, Bool, true, false, cond, List, [], ◌∷◌, length, slice_get, slice_set, Option, Some, None, Result, Ok, Err, refl, sym, ap, subst, inl, inr}
 use Rattle.rina_account.specs.declared.ledger.Off.{Off}
 use Rattle.rina_base.specs.declared.cause.Cause.{Cause}
 use Rattle.rina_base.specs.declared.cause.Cause.TheVariants as causes
@@ -44,6 +44,7 @@ use Rattle.rina_channel.specs.Standing.{IsStanding}
 use Rattle.rina_channel.proofs.Calls.{calls_change_ends, calls_that_acknowledge_do}
 use Rattle.rina_channel.proofs.Fitting.{acknowledging_serves_links}
 use Rattle.rina_channel.proofs.Putting.{acknowledged_stands}
+use Rattle.rina_member.specs.Knowing.{HasLiveLink}
 use Rattle.rina_dif.specs.declared.dif.Dif.{Dif}
 use Rattle.rina_dif.specs.Connected.{AreConnected, channels_seen}
 use Rattle.rina_dif.specs.Holding.{Holds, LinksStand}
@@ -53,7 +54,7 @@ use Rattle.rina_dif.specs.Shown.{seen_of}
 use Rattle.rina_dif.proofs.Closing.{served_holds}
 use Rattle.rina_dif.proofs.Flooding.{journal_floods}
 use Rattle.rina_dif.proofs.LinksLive.{serving_lives}
-use Rattle.rina_dif.proofs.Keeping.{IsSameHouse, house_is, same_places}
+use Rattle.rina_dif.proofs.Keeping.{IsSameHouse, house_is, put_house}
 use Rattle.rina_dif.proofs.Leaves.{has_process, shown_at, stepped}
 use Rattle.rina_dif.proofs.Elsewhere.{by_process}
 use Rattle.rina_dif.specs.Elsewhere.{ChangesProcess}
@@ -70,6 +71,7 @@ use Rattle.rina_flows.proofs.Framed.{ids_at}
 use Rattle.rina_flows.specs.Tied.{conns_of}
 use Rattle.std.specs.Prelude.{IsSome}
 use Rattle.rina_dif.proofs.Settling.{off_house}
+use Rattle.rina_dif.proofs.NamedByPlace.{named_journal}
 
 same_some : {X : Type 0} (o : Option X) (a b : X) → o ≡ Some a → o ≡ Some b → a ≡ b
 same_some o a b h g = cc
@@ -78,11 +80,18 @@ same_some o a b h g = cc
 pub same_channels : (g : Config) (manage : Cube) (now : ℕ) (channels : List Channel) (old new : Flows) → SameIds old new → new.journal ≡ old.journal → seen_of_channels g manage now channels new ≡ seen_of_channels g manage now channels old
 same_channels g manage now channels old new ids same = calls_change_ends g manage now channels old new ids ∙ ap (λ (j : Journal). record (seen_of_channels g manage now channels old) { ends = j.ends }) same
 
+-- its link is live
+pub live_there : (d : Dif) (i place number : ℕ) (p : IpcProcess) (here : IsLinkEnd d i place number) → slice_get d.processes i ≡ Some p → HasLiveLink p.links here.live.link.number
+live_there d i place number p here is =
+    let live = here.live.live in
+    let same : live.process ≡ process_of p = same_some (slice_get (seen_of d).processes here.channel.member) live.process (process_of p) live.is_process (ap (slice_get (seen_of d).processes) here.member ∙ shown_at d i p is) in
+    record { place = live.place; link = live.link; stands = ap (λ (z : Process). slice_get z.links live.place) (sym same) ∙ live.stands; live = live.live; is_number = live.number_is }
+
 -- What is put, or written off
 
-posts_same : (cap now number : ℕ) (hop : Hop) (cause : Option Cause) (p p' : Process) → PostsFor cap now number hop (Ok cause) p p' → IsSameHouse p p'
-posts_same cap now number hop None p p' s = house_is p _ p' s.new_is (record { links = refl; routes = refl; places = λ qos link. same_places qos link p.queues s.place s.queue (s.queue.items ++ record { pdu = hop.pdu; left = hop.left; since = now } ∷ []) s.is_queue.is_queue })
-posts_same cap now number hop (Some cause) p p' s = house_is p _ p' s.1.new_is (off_house p _)
+posts_same : (cap now number : ℕ) (hop : Hop) (cause : Option Cause) (p p' : Process) → PostsFor cap now number hop (Ok cause) p p' → HasLiveLink p.links number → IsSameHouse p p'
+posts_same cap now number hop None p p' s live = house_is p _ p' s.new_is (put_house p 0 number s.place s.queue (record { pdu = hop.pdu; left = hop.left; since = now } ∷ []) s.is_queue (inr live))
+posts_same cap now number hop (Some cause) p p' s live = house_is p _ p' s.1.new_is (off_house p _)
 
 -- on the link of a channel
 posts_on : (cap g_cap now : ℕ) (hop : Hop) (cause : Option Cause) (ps : List Process) (p p' : Process) (channel : Channel) → cap ≡ g_cap → slice_get ps channel.member ≡ Some p → (live : IsLive ps channel) → PostsFor cap now live.link.number hop (Ok cause) p p' → PostsOn g_cap now hop.left ps channel hop.pdu cause (slice_set ps channel.member p')
@@ -143,7 +152,7 @@ posted_at d lines below i place number hop cause ps lt h here posts =
       is_process = p.1;
       process' = x.0;
       room = x.2;
-      same = posts_same p.0.queues.cap d.clock here.live.link.number hop cause (process_of p.0) (process_of x.0) s;
+      same = posts_same p.0.queues.cap d.clock here.live.link.number hop cause (process_of p.0) (process_of x.0) s (live_there d i place number p.0 here p.1);
       are = x.3;
       posted = subst (λ (n : ℕ). PostsOn (config_of d.settings).cap d.clock hop.left (seen_of d).processes here.channel hop.pdu cause (slice_set (seen_of d).processes n (process_of x.0))) here.member on;
       written = posts_lawful (seen_of d) i p.0.queues.cap d.clock here.live.link.number hop cause (process_of p.0) (process_of x.0) cap shown s h.written_off;
@@ -196,6 +205,7 @@ module _ (d : Dif) (below : Seen) (i place number : ℕ) (conn : Conn) (due : Du
     tied = has.tied;
     standing = subst (λ (m : ChannelsSeen). IsStanding m has.lines' ps' below) (sym (same_channels (config_of d.settings) d.connections.manage d.clock d.connections.channels old flows has.ids has.same)) (acknowledged_stands (channels_seen (config_of d.settings) d.clock d.connections) links.lines (seen_of d).processes below place cause has.lines' ps' links.standing ack_posted);
     paired = links.paired;
+    named = named_journal old flows has.same links.named;
     each = λ j n q live. links.each j n q (serving_lives (config_of d.settings) d.clock (seen_of d).processes ps' (acknowledging_serves_links (channels_seen (config_of d.settings) d.clock d.connections) links.lines (seen_of d).processes below place cause has.lines' ps' links.standing ack_posted) j n q live);
   }
 

@@ -1,5 +1,5 @@
 -- How a PDU that arrived is handled.
-use Rattle.std.proofs.Common.{◌≡◌, ◌∙◌, ℕ, ◌<◌, List, [], ◌∷◌, ◌++◌, length, map, get_or, slice_get, slice_set, Option, Some, Result, Ok, Err, refl, sym, ap, subst}
+use Rattle.std.proofs.Common.{◌≡◌, ◌∙◌, ℕ, ◌<◌, List, [], ◌∷◌, length, map, get_or, slice_get, slice_set, Option, Some, Result, Ok, Err, refl, sym, ap, subst, inl}
 use Rattle.std.specs.Prelude.{IsSome, OnErr, OnOk}
 use Rattle.std.proofs.lemmas.Option.{slice_get_read}
 use Rattle.rina_account.specs.declared.ledger.Off.{Off}
@@ -36,7 +36,7 @@ use Rattle.rina_dif.specs.declared.dif.Dif.{Dif}
 use Rattle.rina_dif.specs.Holding.{Holds, Stands}
 use Rattle.rina_dif.specs.Shown.{seen_of}
 use Rattle.rina_dif.specs.Taking.{ArrivesOnLink, ArrivesTo, Comes, DecidesAt, IsForLink, IsNoted, NotesAt, RoutesAt, SettlesFor}
-use Rattle.rina_dif.proofs.Keeping.{AreHome, IsSameHouse, home_set, house_is, same_house, same_places}
+use Rattle.rina_dif.proofs.Keeping.{AreHome, IsSameHouse, home_set, house_is, kept_house, put_house, same_house}
 use Rattle.rina_dif.proofs.Leaves.{has_process, shown_at, stepped}
 use Rattle.rina_channel.specs.Changes.{LeavesLinks}
 use Rattle.rina_channel.specs.Ledgers.{unnamed_from}
@@ -84,13 +84,13 @@ arrives_one_on_link now place pdu at flows flows' cause ps x ledger ledger' are 
 -- The queues keep their places
 
 pub off_house : (p : Process) (lines : List Off) → IsSameHouse p (with_offs p lines)
-off_house p lines = record { links = refl; routes = refl; places = λ qos link. refl }
+off_house p lines = kept_house p (with_offs p lines) refl refl refl
 
 pub decides_same : (cap now addr : ℕ) (p : Process) (since : ℕ) (hop : Hop) (r : Result Decision NoMemory) (p' : Process) → Decides cap now addr p since hop r p' → IsSameHouse p p'
 decides_same cap now addr p since hop (Ok decision.Here) p' s = house_is p p p' s.2 (same_house p)
 decides_same cap now addr p since hop (Ok decision.Relayed) p' s =
     let q = s.2 in
-    house_is p _ p' q.new_is (record { links = refl; routes = refl; places = λ qos link. same_places qos link p.queues q.place q.queue (q.queue.items ++ record { pdu = hop.pdu; left = hop.left; since = since } ∷ []) q.is_queue.is_queue })
+    house_is p _ p' q.new_is (put_house p hop.pdu.qos q.link q.place q.queue (record { pdu = hop.pdu; left = hop.left; since = since } ∷ []) q.is_queue (inl (hop.pdu.dst, q.next)))
 decides_same cap now addr p since hop (Ok (decision.Off (causes.Expired left charge))) p' s = house_is p _ p' s.3 (off_house p _)
 decides_same cap now addr p since hop (Ok (decision.Off (causes.NoRoute dst))) p' s = house_is p _ p' s.2.2 (off_house p _)
 decides_same cap now addr p since hop (Ok (decision.Off (causes.QueueFull n))) p' s = house_is p _ p' s.2.2 (off_house p _)

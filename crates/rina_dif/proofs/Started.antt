@@ -3,7 +3,7 @@ use Rattle.std.proofs.Common.{◌≡◌, ◌∙◌, ℕ, zero, suc, ◌+◌, ◌
 use Rattle.std.specs.Prelude.{◌≢◌, Contains, IsSome, count_by, filter, find, flat_map, option_and_then, position}
 use Rattle.std.specs.List.{cons_option}
 use Rattle.std.proofs.lemmas.Bool.{eqb-true, false≢true}
-use Rattle.std.proofs.lemmas.List.{drop_all, length-map}
+use Rattle.std.proofs.lemmas.List.{length-map}
 use Rattle.std.proofs.lemmas.List.Sums.{sum_by-cons}
 use Rattle.std.proofs.lemmas.Option.{get_or_from_slice_get, slice_get-get_or, slice_get-map, slice_get_within}
 use Rattle.rina_access.specs.declared.rules.Rule.{Rule}
@@ -40,7 +40,7 @@ use Rattle.rina_data.specs.Configs.{config_of, member_of}
 use Rattle.rina_data.proofs.Finding.{there}
 use Rattle.rina_dif_law.specs.Numbered.{AreMembers}
 use Rattle.rina_dif_law.specs.Standing.{IsConfig}
-use Rattle.rina_member.specs.Knowing.{AreLive, AreNumbered, AreRoutesOf, IsLaidOut, IsPlanned, Knows, hops_of, made_links}
+use Rattle.rina_member.specs.Knowing.{AreLive, AreNumbered, AreRoutesOf, IsLaidOut, IsPlanned, Knows, hops_of}
 use Rattle.rina_member.specs.Routing.{addr_at, edge_back, edge_there, edges_from, routes_to}
 use Rattle.rina_member.specs.Objects.{first_objects}
 use Rattle.rina_member.specs.Start.{HasLinksIfStatic, items_held, started, starts_enrolled}
@@ -226,7 +226,6 @@ bare_one is_static s now rules allow m p g laid named among links routes one =
     record {
       knows = subst (λ (ls : List Link). Knows now m ls g.agent) (sym links) (subst (Knows now m []) (sym is) knows);
       planned = λ still. subst (λ (ls : List Link). IsPlanned s.members [] m ls g.agent) (sym links) (subst (IsPlanned s.members [] m []) (sym is) (first_planned is_static s.members [] one.access m [] among numbered refl still));
-      none_made = λ still. links;
       bounded = subst AreBounded (sym links) (few_bounded [] numbered (omega arith));
       routes = subst (AreRoutesOf g.agent s.members) (sym routes) (none_of g.agent s.members (ap (λ (z : Agent). hops_of z.links) is ∙ no_links is_static s.members [] one.access m));
       tells = subst (λ (z : Agent). TellsNeighbours z) (sym is) (starts_near is_static s.members [] one.access m [] laid named (λ x has. omega arith) among (omega arith));
@@ -436,7 +435,6 @@ made_managed plan i dif d old new laid_ports linked sound at are config members 
           record {
             knows = subst (λ (ls : List Link). Knows d.clock m ls g.agent) (sym links) (subst (Knows d.clock m (links_from 0 ports)) (sym is) knows);
             planned = λ still. subst (λ (ls : List Link). IsPlanned d.settings.members dif.links m ls g.agent) (sym links) (subst (IsPlanned d.settings.members dif.links m (links_from 0 ports)) (sym is) (first_planned dif.is_static d.settings.members dif.links one.access m (links_from 0 ports) among (are_numbered ports) (all ∙ sym count) still));
-            none_made = λ still. ap (λ (ls : List Link). made_links d.settings.members dif.links m ls) links ∙ drop_all (length (edges_from d.settings.members m.node dif.links)) (links_from 0 ports) (omega (arith, all, count));
             bounded = subst AreBounded (sym links) (few_bounded (links_from 0 ports) (are_numbered ports) (omega (arith, most, count)));
             routes = routed.routes k g p within is_g is_p;
             tells = subst (λ (z : Agent). TellsNeighbours z) (sym is) (starts_near dif.is_static d.settings.members dif.links one.access m (links_from 0 ports) out named fewest among (omega (arith, most, count)));

@@ -1,6 +1,6 @@
 -- A DIF that loses a link holds.
 use Rattle.std.proofs.Common.{◌≡◌, ◌∙◌, ℕ, ◌<◌, ◌==◌, ◌&&◌, Bool, true, false, cond, List, [], ◌∷◌, get_or, length, map, slice_get, slice_set, set-set, Option, Some, None, Result, Ok, Err, refl, sym, ap, subst, arith, inl, inr}
-use Rattle.std.specs.Prelude.{IfSome, IsSome, OnErr, position}
+use Rattle.std.specs.Prelude.{Contains, IfSome, IsSome, OnErr, position}
 use Rattle.std.proofs.lemmas.Bool.{false≢true}
 use Rattle.std.proofs.lemmas.Option.{slice_get-get_or, slice_get_read, slice_get_within}
 use Rattle.rina_member.specs.declared.management.Management.{Management}
@@ -28,7 +28,7 @@ use Rattle.rina_data.proofs.Finding.{there}
 use Rattle.rina_dif_law.proofs.Linkless.{lost_carries, lost_numbered, lost_stands}
 use Rattle.rina_dif_law.proofs.Warranted.{lost_written}
 use Rattle.rina_dif.specs.declared.dif.Dif.{Dif}
-use Rattle.rina_dif.specs.Holding.{AreHoused, HasQueues, HaveQueues, Holds, IsHoused, Stands}
+use Rattle.rina_dif.specs.Holding.{AreHoused, AreWhole, HasQueues, HaveQueues, Holds, IsHoused, Stands, WaitsOnLive}
 use Rattle.rina_member.specs.Knowing.{AreRoutesOf, Knows}
 use Rattle.rina_dif.specs.Shown.{seen_of}
 use Rattle.rina_dif.specs.declared.processes.LinkLoss.{LinkLoss}
@@ -43,6 +43,7 @@ use Rattle.rina_member.proofs.Knowing.{knows_live}
 use Rattle.rina_member.proofs.Losing.{loses_enrolled}
 use Rattle.rina_dif.proofs.Enrolled.{lost_in, same_enrolled}
 use Rattle.rina_dif.proofs.Managed.{IsLoss, IsWithout, its_agent, loses_managed, managed_lost}
+use Rattle.rina_dif.proofs.WaitsOnLive.{lost_on_live}
 use Rattle.rina_dif.proofs.Settling.{holds_unseen, unseen}
 use Rattle.rina_channel.proofs.Frame.{other_pdus_stand}
 use Rattle.rina_channel.proofs.Leaving.{losing_leaves}
@@ -82,6 +83,11 @@ emptied_places qos n link qs =
     let is = λ (z : For). (z.link == n) && (z.qos == qos) in
     sym (position_map for_of is (map (without_items link) qs)) ∙ ap (position is) (for_all link qs) ∙ position_map for_of is qs
 
+whole_after : (g : Config) (link : Link) (qs : List Queue) → AreWhole g qs → AreWhole g (map (without_items link) qs)
+whole_after g link qs whole number a b some known =
+    let before : IsSome (queue_place a number qs) = subst (λ (o : Option ℕ). IsSome o) (emptied_places a number link qs) some in
+    subst (λ (o : Option ℕ). IsSome o) (sym (emptied_places b number link qs)) (whole number a b before known)
+
 -- The next hops are by live links, which have their queues
 
 have_after : (g : Config) (p : Process) (place : ℕ) (link : Link) (routes : List Route) → slice_get p.links place ≡ Some link → HaveQueues g p → HaveQueues g (without_link place link routes p)
@@ -101,7 +107,14 @@ housed_after g ps at p p' place link routes now member agent members housed is r
     let old = housed at p is in
     let have = have_after g (process_of p) place link routes there old.links in
     let has = hop_after g now member agent members (without_link place link routes (process_of p)) have knows are in
-    set_cases (IsHoused g) ps at p' (record { cap = ap (λ (s : QueueSettings). s.cap) room ∙ old.cap; links = subst (HaveQueues g) (sym new) have; queues = subst (HasQueues g) (sym new) has }) housed
+    set_cases (IsHoused g) ps at p' (record {
+      cap = ap (λ (s : QueueSettings). s.cap) room ∙ old.cap;
+      links = subst (HaveQueues g) (sym new) have;
+      queues = subst (HasQueues g) (sym new) has;
+      cubes = λ qos known. subst (λ (ids : List ℕ). Contains ids qos) (sym (ap (λ (s : QueueSettings). s.cubes) room)) (old.cubes qos known);
+      whole = subst (λ (z : Process). AreWhole g z.queues) (sym new) (whole_after g link (process_of p).queues old.whole);
+      waits = subst WaitsOnLive (sym new) (lost_on_live (process_of p) place link routes there old.waits);
+    }) housed
 
 -- The DIF holds
 
@@ -209,6 +222,7 @@ module _ (d : Dif) (lines : List Direction) (below : Seen) (at : ℕ) (lost : Lo
           tied = links.tied;
           standing = other_pdus_stand (channels_seen (config_of d.settings) d.clock d.connections) links.lines (seen_of d).processes (seen_of between).processes below links.standing leaves;
           paired = links.paired;
+          named = links.named;
           each = λ i n q live. links.each i n q (leaves.live i n q live);
         } in
         let there : ClosesOn (config_of d.settings) d.clock links.lines gone.loses.link.port then_closed.offs d.connections after.connections = subst (λ (port : Port). ClosesOn (config_of d.settings) d.clock links.lines port then_closed.offs d.connections after.connections) (sym first_lost.port_is) (then_closed.closes kept) in

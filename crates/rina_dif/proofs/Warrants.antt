@@ -1,5 +1,6 @@
 -- Whatever a call of a DIF writes off, it may write off.
-use Rattle.std.proofs.Common.{◌≡◌, ◌∙◌, ℕ, List, [], append-nil, map, slice_get, set-set, Option, Some, None, Result, Ok, Err, refl, sym, ap, subst, arith, inl, inr}
+use Rattle.std.proofs.Common.{◌≡◌, ◌∙◌, ℕ, List, [], append-nil, map, slice_get, slice_set, set-set, Option, Some, None, Result, Ok, Err, refl, sym, ap, subst, arith, inl, inr}
+use Rattle.std.proofs.lemmas.List.{map-set}
 use Rattle.rina_account.specs.declared.ledger.Off.{Off}
 use Rattle.rina_base.specs.declared.cause.Cause.{Cause}
 use Rattle.rina_base.specs.declared.cause.Cause.TheVariants as causes
@@ -14,6 +15,7 @@ use Rattle.rina_iface.specs.declared.error.SendError.TheVariants as send
 use Rattle.rina_iface.specs.declared.state.PortState.{PortState}
 use Rattle.rina_iface.specs.declared.state.PortState.TheVariants.{Allocated, Closed, Failed, Pending, Refused}
 use Rattle.rina_iface.specs.Seen.{Seen}
+use Rattle.rina_iface.proofs.Grown.{still_at}
 use Rattle.rina_law.specs.Direction.{Direction}
 use Rattle.rina_data.specs.declared.step.ClockStep.{ClockStep}
 use Rattle.rina_data.specs.declared.step.ClockStep.TheVariants as step
@@ -23,6 +25,8 @@ use Rattle.rina_data.specs.declared.step.StepError.{StepError}
 use Rattle.rina_data.specs.declared.step.StepError.TheVariants.{CountSpent, Memory, NoIpc, NoLink}
 use Rattle.rina_data.specs.Configs.{Config, config_of}
 use Rattle.rina_data.specs.Losing.{without_link}
+use Rattle.rina_data.specs.declared.link.Link.{Link}
+use Rattle.rina_data.specs.Deciding.{process_of}
 use Rattle.rina_data.specs.Process.{Process, with_offs}
 use Rattle.rina_dif_law.specs.Dif.{DifSeen, with_process}
 use Rattle.rina_dif_law.specs.Incoming.{Ins}
@@ -39,10 +43,14 @@ use Rattle.rina_dif_law.proofs.Linkless.{lost_carries, lost_numbered, lost_stand
 use Rattle.rina_dif_law.proofs.Warranted.{acknowledged_noted, ended_noted, failed_noted, forgotten_noted, ins_noted, lost_noted, offers_noted, outs_noted, passed_noted, resent_noted}
 use Rattle.rina_dif_law.proofs.Writing.{IsNoted, kept_noted, line_noted, noted_as, noted_on, ports_same, process_noted, quiet_noted, same_noted, writes}
 use Rattle.rina_channel.specs.FlowLaws.{FlowsStand, HasNoZero}
+use Rattle.rina_dif.proofs.Leaves.{shown_at}
 use Rattle.rina_dif.proofs.Closing.{closes_held, closes_lines, noted_stand}
 use Rattle.rina_dif.proofs.Cutting.{after_loss}
 use Rattle.rina_ids.specs.Members.{CepIds}
+use Rattle.rina_cube.specs.declared.Cube.{Cube}
+use Rattle.rina_dif.specs.declared.connections.Connections.{Connections}
 use Rattle.rina_dif.specs.declared.dif.Dif.{Dif}
+use Rattle.rina_dif.specs.Claiming.{StepsNew}
 use Rattle.rina_dif.specs.Clocking.{ClockSteps, ClockStepsAt, Serves, ServesAny, ServesMessage, Steps, StepsFlow, StepsLost, StepsOk}
 use Rattle.rina_dif.specs.Facade.{PassesAt}
 use Rattle.rina_dif.specs.Freeing.{FreesAt, FreesEnd}
@@ -196,54 +204,67 @@ link_ids d below k ids links is =
     ap (λ (z : Ids). z.scep) (same_some (slice_get m.ids k) ids (names_at k c.0.partner) is (links.standing.channels.names k c.0 c.1))
 
 -- it does what is due, and writes lines of its link
-link_noted : (d : Dif) (lines : List Direction) (below : Seen) (node i place : ℕ) (done : ClockStep) (new : DifSeen) (flows' : Flows) (below' : Seen) (h : Holds d lines below) → new ≡ record (seen_of d) { processes = new.processes } → DoesLink d h.connected.lines below i place done new flows' below' → IsNoted (MayByClock d lines below node) (seen_of d) new
-link_noted d lines below node i place (step.Gone cep) new flows' below' h same s =
+link_noted : (d : Dif) (lines : List Direction) (first below : Seen) (node i place : ℕ) (done : ClockStep) (new : DifSeen) (flows' : Flows) (below' : Seen) (h : Holds d lines below) → new ≡ record (seen_of d) { processes = new.processes } → DoesLink d h.connected.lines below i place done new flows' below' → IsNoted (MayByClock d lines first node) (seen_of d) new
+link_noted d lines first below node i place (step.Gone cep) new flows' below' h same s =
     let f = s.1 in
     let m = channels_seen (config_of d.settings) d.clock d.connections in
     let member = beside (seen_of d).processes (seen_of d).config.members i f.process (sym h.standing.aligned) f.is_process in
-    process_noted (MayByClock d lines below node) (seen_of d) new i f.process (with_offs f.process (map unnamed_line f.held)) (map unnamed_line f.held) f.written f.is_process refl
+    process_noted (MayByClock d lines first node) (seen_of d) new i f.process (with_offs f.process (map unnamed_line f.held)) (map unnamed_line f.held) f.written f.is_process refl
     (λ off one. inl (record { member = member.0; process = f.process; is_process = record { is_member = member.1; is_process = f.is_process }; may = inr (gone_lines m h.connected.lines (seen_of d).processes below place f.held f.links' h.connected.standing f.forgets off one) }))
     (ports_same f.process.links f.process.links refl)
-link_noted d lines below node i place (step.Ack cep) new flows' below' h same s =
+link_noted d lines first below node i place (step.Ack cep) new flows' below' h same s =
     let a = s.1.acknowledged in
-    posts_noted d lines below node place a.channel a.cube.mpl _ s.1.cause new a.is_end.stands refl (link_ids d below place a.ids h.connected a.is_end.is_conn.ids_are) same a.posted
-link_noted d lines below node i place (step.Again num) new flows' below' h same s =
+    posts_noted d lines first node place a.channel a.cube.mpl _ s.1.cause new a.is_end.stands refl (link_ids d below place a.ids h.connected a.is_end.is_conn.ids_are) same a.posted
+link_noted d lines first below node i place (step.Again num) new flows' below' h same s =
     let a = s.0.resent in
-    posts_noted d lines below node place a.channel a.cube.mpl _ s.0.cause new a.is_end.stands refl (link_ids d below place a.ids h.connected a.is_end.is_conn.ids_are) same a.posted
-link_noted d lines below node i place step.Idle new flows' below' h same s = absurd s
-link_noted d lines below node i place (step.GaveUp num) new flows' below' h same s = same_noted (MayByClock d lines below node) (seen_of d) new s.same.0
-link_noted d lines below node i place (step.LinkLost link) new flows' below' h same s = absurd s
-link_noted d lines below node i place (step.LinkNew link) new flows' below' h same s = absurd s
-link_noted d lines below node i place (step.Timeout port) new flows' below' h same s = absurd s
-link_noted d lines below node i place (step.Message link) new flows' below' h same s = absurd s
+    posts_noted d lines first node place a.channel a.cube.mpl _ s.0.cause new a.is_end.stands refl (link_ids d below place a.ids h.connected a.is_end.is_conn.ids_are) same a.posted
+link_noted d lines first below node i place step.Idle new flows' below' h same s = absurd s
+link_noted d lines first below node i place (step.GaveUp num) new flows' below' h same s = same_noted (MayByClock d lines first node) (seen_of d) new s.same.0
+link_noted d lines first below node i place (step.LinkLost link) new flows' below' h same s = absurd s
+link_noted d lines first below node i place (step.LinkNew link) new flows' below' h same s = absurd s
+link_noted d lines first below node i place (step.Timeout port) new flows' below' h same s = absurd s
+link_noted d lines first below node i place (step.Message link) new flows' below' h same s = absurd s
 
-serves_noted : (d : Dif) (lines : List Direction) (below : Seen) (node : ℕ) (done : ClockStep) (d' : Dif) (lines' : List Direction) (below' : Seen) → Holds d lines below → Serves d lines below node done d' lines' below' → IsNoted (MayByClock d lines below node) (seen_of d) (seen_of d')
-serves_noted d lines below node done d' lines' below' h (inl flow) = flow_noted d lines below node done (seen_of d') lines' h flow.does
-serves_noted d lines below node done d' lines' below' h (inr link) =
-    let x = link.0.does h.connected in
-    link_noted d lines below node link.0.i x.place done (seen_of d') d'.connections.flows below' h (ap seen_of link.0.only) x.does
+serves_noted : (d : Dif) (lines : List Direction) (first below : Seen) (node : ℕ) (done : ClockStep) (d' : Dif) (lines' : List Direction) (below' : Seen) → Holds d lines first → Holds d lines below → Serves d lines below node done d' lines' below' → IsNoted (MayByClock d lines first node) (seen_of d) (seen_of d')
+serves_noted d lines first below node done d' lines' below' h now (inl flow) = flow_noted d lines first node done (seen_of d') lines' h flow.does
+serves_noted d lines first below node done d' lines' below' h now (inr link) =
+    let x = link.0.does now.connected in
+    link_noted d lines first below node link.0.i x.place done (seen_of d') d'.connections.flows below' now (ap seen_of link.0.only) x.does
 
 -- the pieces of a message wait for its link, and nothing is written
-message_noted : (d : Dif) (lines : List Direction) (below : Seen) (node : ℕ) (done : ClockStep) (d' : Dif) → Holds d lines below → ServesMessage d lines below node done d' → IsNoted (MayByClock d lines below node) (seen_of d) (seen_of d')
-message_noted d lines below node done d' h m =
+message_noted : (d : Dif) (lines : List Direction) (first below : Seen) (node : ℕ) (done : ClockStep) (d' : Dif) → Holds d lines below → ServesMessage d lines below node done d' → IsNoted (MayByClock d lines first node) (seen_of d) (seen_of d')
+message_noted d lines first below node done d' h m =
     let o = (m.sends.offers h.connected).offers.offered in
     let same : seen_of d' ≡ record (seen_of d) { processes = (seen_of d').processes } = ap seen_of m.sends.only in
-    kept_noted (MayByClock d lines below node) (seen_of d) (seen_of d') o.channel.member o.put.process _ (same ∙ ap (λ (ps : List Process). record (seen_of d) { processes = ps }) o.put.new_is) o.put.is_of.is_process refl refl
+    kept_noted (MayByClock d lines first node) (seen_of d) (seen_of d') o.channel.member o.put.process _ (same ∙ ap (λ (ps : List Process). record (seen_of d) { processes = ps }) o.put.new_is) o.put.is_of.is_process refl refl
 
-any_noted : (d : Dif) (lines : List Direction) (below : Seen) (node : ℕ) (done : ClockStep) (d' : Dif) (lines' : List Direction) (below' : Seen) → Holds d lines below → ServesAny d lines below node done d' lines' below' → IsNoted (MayByClock d lines below node) (seen_of d) (seen_of d')
-any_noted d lines below node done d' lines' below' h (inl served) = serves_noted d lines below node done d' lines' below' h served.0
-any_noted d lines below node done d' lines' below' h (inr message) = message_noted d lines below node done d' h message.0
+any_noted : (d : Dif) (lines : List Direction) (first below : Seen) (node : ℕ) (done : ClockStep) (d' : Dif) (lines' : List Direction) (below' : Seen) → Holds d lines first → Holds d lines below → ServesAny d lines below node done d' lines' below' → IsNoted (MayByClock d lines first node) (seen_of d) (seen_of d')
+any_noted d lines first below node done d' lines' below' h now (inl served) = serves_noted d lines first below node done d' lines' below' h now served.0
+any_noted d lines first below node done d' lines' below' h now (inr message) = message_noted d lines first below node done d' now message.0
+
+-- a new link writes nothing
+new_noted : (d : Dif) (lines : List Direction) (below : Seen) (node number : ℕ) (d' : Dif) (below' : Seen) → StepsNew d below node number d' below' → IsNoted (MayByClock d lines below node) (seen_of d) (seen_of d')
+new_noted d lines below node number d' below' s =
+    let holds : ℕ → Off → Type 0 = MayByClock d lines below node in
+    let links = s.takes.links in
+    let after : Process = process_of links.after in
+    let manage : d'.connections.manage ≡ d.connections.manage = ap (λ (c : Connections). c.manage) s.takes.connections in
+    let same : seen_of d' ≡ record (seen_of d) { processes = (seen_of d').processes } = ap seen_of s.takes.only ∙ ap (λ (m : Cube). record (seen_of d) { manage = m; processes = (seen_of d').processes }) manage in
+    let processes : (seen_of d').processes ≡ slice_set (seen_of d).processes s.i after = ap (map process_of) links.are ∙ map-set process_of d.processes s.i links.after in
+    let is : seen_of d' ≡ with_process (seen_of d) s.i after = same ∙ ap (λ (ps : List Process). record (seen_of d) { processes = ps }) processes in
+    process_noted holds (seen_of d) (seen_of d') s.i (process_of links.process) after [] is (shown_at d s.i links.process links.is_process) (links.takes.ledger ∙ sym (append-nil links.process.ledger)) (λ off none. absurd none)
+    (λ place link at. (link, ap (λ (ls : List Link). slice_get ls place) links.takes.links ∙ still_at links.process.links _ place link at, refl))
 
 steps_noted : (d : Dif) (lines : List Direction) (below : Seen) (node : ℕ) (done : ClockStep) (d' : Dif) (lines' : List Direction) (below' : Seen) → Holds d lines below → Steps d lines below node done d' lines' below' → IsNoted (MayByClock d lines below node) (seen_of d) (seen_of d')
-steps_noted d lines below node step.Idle d' lines' below' h s = any_noted d lines below node step.Idle d' lines' below' h s.1
-steps_noted d lines below node (step.Gone cep) d' lines' below' h s = any_noted d lines below node (step.Gone cep) d' lines' below' h s.1
-steps_noted d lines below node (step.GaveUp num) d' lines' below' h s = any_noted d lines below node (step.GaveUp num) d' lines' below' h s.1
-steps_noted d lines below node (step.Ack cep) d' lines' below' h s = any_noted d lines below node (step.Ack cep) d' lines' below' h s.1
-steps_noted d lines below node (step.Again num) d' lines' below' h s = any_noted d lines below node (step.Again num) d' lines' below' h s.1
+steps_noted d lines below node step.Idle d' lines' below' h s = any_noted d lines below s.1.mid node step.Idle d' lines' below' h s.1.holds s.1.serves
+steps_noted d lines below node (step.Gone cep) d' lines' below' h s = any_noted d lines below s.1.mid node (step.Gone cep) d' lines' below' h s.1.holds s.1.serves
+steps_noted d lines below node (step.GaveUp num) d' lines' below' h s = any_noted d lines below s.1.mid node (step.GaveUp num) d' lines' below' h s.1.holds s.1.serves
+steps_noted d lines below node (step.Ack cep) d' lines' below' h s = any_noted d lines below s.1.mid node (step.Ack cep) d' lines' below' h s.1.holds s.1.serves
+steps_noted d lines below node (step.Again num) d' lines' below' h s = any_noted d lines below s.1.mid node (step.Again num) d' lines' below' h s.1.holds s.1.serves
 steps_noted d lines below node (step.LinkLost link) d' lines' below' h s = lost_with_noted d lines below node link d' h s.0
-steps_noted d lines below node (step.LinkNew link) d' lines' below' h s = any_noted d lines below node (step.LinkNew link) d' lines' below' h s.1
-steps_noted d lines below node (step.Timeout port) d' lines' below' h s = any_noted d lines below node (step.Timeout port) d' lines' below' h s.1
-steps_noted d lines below node (step.Message link) d' lines' below' h s = any_noted d lines below node (step.Message link) d' lines' below' h s.1
+steps_noted d lines below node (step.LinkNew link) d' lines' below' h s = new_noted d lines below node link d' below' s.1
+steps_noted d lines below node (step.Timeout port) d' lines' below' h s = any_noted d lines below s.1.mid node (step.Timeout port) d' lines' below' h s.1.holds s.1.serves
+steps_noted d lines below node (step.Message link) d' lines' below' h s = any_noted d lines below s.1.mid node (step.Message link) d' lines' below' h s.1.holds s.1.serves
 
 clocks_noted : (d : Dif) (lines : List Direction) (below : Seen) (node : ℕ) (r : Result ClockStep StepError) (d' : Dif) (lines' : List Direction) (below' : Seen) → Holds d lines below → ClockStepsAt d lines below node r d' lines' below' → IsNoted (MayByClock d lines below node) (seen_of d) (seen_of d')
 clocks_noted d lines below node (Err Memory) d' lines' below' h s = same_noted _ (seen_of d) (seen_of d') s.0

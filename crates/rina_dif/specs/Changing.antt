@@ -20,7 +20,7 @@ use Rattle.rina_iface.specs.declared.state.PortState.{PortState}
 use Rattle.rina_iface.specs.declared.state.PortState.TheVariants.{Allocated}
 use Rattle.rina_iface.specs.Seen.{Seen}
 use Rattle.rina_member.specs.declared.management.Management.{Management}
-use Rattle.rina_member.specs.Managements.{LosesLink, MayHoldEntry, entered, with_flow, with_sent, without_flow, without_flows}
+use Rattle.rina_member.specs.Managements.{LosesLink, MayHoldEntry, claimed, entered, with_agent, with_flow, with_sent, without_flow, without_flows}
 use Rattle.rina_dif.specs.declared.dif.Dif.{Dif}
 use Rattle.rina_dif.specs.Elsewhere.{home_of}
 use Rattle.rina_dif.specs.Unlinking.{FindsLostAt, FindsNoneLeft}
@@ -136,10 +136,11 @@ ManagesLoss (Err e) d below at node number new = new ≡ d.managements
 
 -- A clock step
 
--- where a link is lost, the management of the member loses it; where a flow is given up, the member deletes its object; a management connection, which
--- is told with the CEP-id 0, has none; where a message goes over a link, it waits there no more; else none changes
+-- where a link is lost, the management of the member loses it; where one is new, it gets it; where a flow is given up, the member deletes its object; a
+-- management connection, which is told with the CEP-id 0, has none; where a message goes over a link, it waits there no more; else none changes
 abbrev pub ManagesStep : Result ClockStep StepError → Option ℕ → Dif → Seen → ℕ → List Management → Type 0
 ManagesStep (Ok (step.LinkLost number)) (Some at) d below node new = LosesManaged d below at node number new
+ManagesStep (Ok (step.LinkNew number)) (Some at) d below node new = new ≡ changed_at at (λ m. with_agent m (claimed m.agent number)) d.managements
 ManagesStep (Ok (step.GaveUp num)) (Some at) d below node new = ((num.cep ≢ 0) × (new ≡ without_flow_at at num.cep d.managements)) ⊎ ((num.cep ≡ 0) × (new ≡ d.managements))
 ManagesStep (Ok (step.Message number)) (Some at) d below node new = new ≡ changed_at at (λ m. with_sent m number) d.managements
 ManagesStep result home d below node new = new ≡ d.managements

@@ -34,6 +34,7 @@ use Rattle.rina_flows.specs.Calls.{Tells}
 use Rattle.rina_flows.specs.Tied.{conns_of}
 use Rattle.rina_flows.specs.Timely.{IsDue}
 use Rattle.rina_dif.specs.Changing.{ManagesStep}
+use Rattle.rina_dif.specs.Claiming.{MayHaveClaimed, NoLinkComes, StepsNew}
 use Rattle.rina_dif.specs.declared.clock_steps.Next.{Next}
 use Rattle.rina_dif.specs.declared.clock_steps.Turn.{Turn}
 use Rattle.rina_dif.specs.declared.dif.Dif.{Dif}
@@ -256,10 +257,26 @@ ServesAnyHere d lines below node result d' below' = DoneHere (λ done z lines'. 
 
 -- What is done first
 
--- a link that is lost comes before all that is due
+-- no link comes, the DIF holds over the rank below as it is then, and a link or a flow is served, or a message goes, or nothing is due
+pub record ServesThen (d : Dif) (lines : List Direction) (below : Seen) (node : ℕ) (done : ClockStep) (d' : Dif) (lines' : List Direction) (below' : Seen) : Type 0 where
+  pub mid : Seen
+  pub none : NoLinkComes d below node mid
+  pub holds : Holds d lines mid
+  pub serves : ServesAny d lines mid node done d' lines' below'
+
+-- a link that is lost comes first, then a flow that came in, then all else that is due
 abbrev pub Steps : Dif → List Direction → Seen → ℕ → ClockStep → Dif → List Direction → Seen → Type 0
 Steps d lines below node (step.LinkLost link) d' lines' below' = StepsLost d lines below node link d' × (lines' ≡ lines) × (below' ≡ below)
-Steps d lines below node done d' lines' below' = NoneLostAt d below node × ServesAny d lines below node done d' lines' below'
+Steps d lines below node (step.LinkNew link) d' lines' below' = NoneLostAt d below node × StepsNew d below node link d' below' × (lines' ≡ lines)
+Steps d lines below node done d' lines' below' = NoneLostAt d below node × ServesThen d lines below node done d' lines' below'
+
+-- behind a link that is lost
+abbrev pub ClaimsOrServes : Dif → List Direction → Seen → ℕ → Result ClockStep StepError → Dif → Seen → Type 0
+ClaimsOrServes d lines below node (Ok (step.LinkNew link)) d' below' = StepsNew d below node link d' below' × Holds d' lines below'
+ClaimsOrServes d lines below node (Ok (step.LinkLost link)) d' below' = ⊥
+ClaimsOrServes d lines below node (Ok done) d' below' = HasDone (λ z lines'. ServesThen d lines below node done z lines' below') below' d'
+ClaimsOrServes d lines below node (Err Memory) d' below' = (seen_of d' ≡ seen_of d) × Holds d' lines below' × MayHaveClaimed d below node below'
+ClaimsOrServes d lines below node (Err other) d' below' = ⊥
 
 -- a link is lost at the IPC process of this node, and the member has no version count left for its link state: nothing is done
 pub record StepsSpent (d : Dif) (below : Seen) (node need left : ℕ) : Type 0 where
@@ -267,9 +284,12 @@ pub record StepsSpent (d : Dif) (below : Seen) (node need left : ℕ) : Type 0 w
   pub at_home : home node (config_of d.settings).members ≡ Some i
   pub lacks : LacksCounts d below i need left
 
+-- what is done at an IPC process. Without memory a flow that came in may be claimed
 abbrev pub StepsHere : Dif → List Direction → Seen → ℕ → Result ClockStep StepError → Dif → Seen → Type 0
+StepsHere d lines below node (Ok done) d' below' = HasDone (λ z lines'. Steps d lines below node done z lines' below') below' d'
 StepsHere d lines below node (Err (CountSpent need left)) d' below' = StepsSpent d below node need left × (seen_of d' ≡ seen_of d) × Holds d' lines below' × (below' ≡ below)
-StepsHere d lines below node result d' below' = DoneHere (λ done z lines'. Steps d lines below node done z lines' below') d lines result d' below' × OnErr result (below' ≡ below)
+StepsHere d lines below node (Err Memory) d' below' = (seen_of d' ≡ seen_of d) × Holds d' lines below' × MayHaveClaimed d below node below'
+StepsHere d lines below node (Err other) d' below' = ⊥
 
 -- at the IPC process of this node
 abbrev pub StepsOk : Dif → List Direction → Seen → ℕ → Result ClockStep StepError → Dif → List Direction → Seen → Type 0
@@ -278,7 +298,7 @@ StepsOk d lines below node (Err e) d' lines' below' = ⊥
 
 -- what `clock_step` does at a node, to its management too
 abbrev pub ClockStepsAt : Dif → List Direction → Seen → ℕ → Result ClockStep StepError → Dif → List Direction → Seen → Type 0
-ClockStepsAt d lines below node (Err Memory) d' lines' below' = (seen_of d' ≡ seen_of d) × (lines' ≡ lines) × (below' ≡ below)
+ClockStepsAt d lines below node (Err Memory) d' lines' below' = (seen_of d' ≡ seen_of d) × (lines' ≡ lines) × MayHaveClaimed d below node below'
 ClockStepsAt d lines below node (Err (CountSpent need left)) d' lines' below' = StepsSpent d below node need left × (seen_of d' ≡ seen_of d) × (lines' ≡ lines) × (below' ≡ below)
 ClockStepsAt d lines below node result d' lines' below' = AtHome (home node (config_of d.settings).members) (λ i. StepsOk d lines below node result d' lines' below') ((result ≡ Err NoIpc) × (seen_of d' ≡ seen_of d) × (lines' ≡ lines) × (below' ≡ below))
 

@@ -1,5 +1,5 @@
 -- When the management connections of a DIF's links stand.
-use Rattle.std.specs.Prelude.{◌≡◌, ℕ, List, slice_get, Some}
+use Rattle.std.specs.Prelude.{◌≡◌, ◌≤◌, ℕ, List, slice_get, Some}
 use Rattle.rina_base.specs.declared.number.Port.{Port}
 use Rattle.rina_channel.specs.declared.channel.Attachment.{Attachment}
 use Rattle.rina_channel.specs.declared.channel.Channel.{Channel}
@@ -13,6 +13,7 @@ use Rattle.rina_data.specs.Process.{Process}
 use Rattle.rina_flood.specs.Network.{Side, other}
 use Rattle.rina_flood.specs.Static.{end_place}
 use Rattle.rina_flows.specs.Calls.{AreTied}
+use Rattle.rina_iface.specs.declared.ends.End.{End}
 use Rattle.rina_iface.specs.Seen.{Seen}
 use Rattle.rina_law.specs.Direction.{Direction}
 use Rattle.rina_dif.specs.declared.connections.Connections.{Connections}
@@ -45,12 +46,17 @@ LinksAreConnected channels processes = (i number : ℕ) (port : Port) → HasLiv
 abbrev pub ArePaired : List Channel → Type 0
 ArePaired channels = (l : ℕ) (side : Side) (channel : Channel) → slice_get channels (end_place l side) ≡ Some channel → channel.partner ≡ end_place l (other side)
 
--- they stand on the rank below: the DIF can have them, directions stand behind them, to which they are tied, their ends are in pairs, and
--- each live link has one
+-- the flow of each end is named by a place that is not behind the end, so that the name by the next place is new
+abbrev pub AreNamedByPlace : List End → Type 0
+AreNamedByPlace ends = (k : ℕ) (e : End) → slice_get ends k ≡ Some e → e.flow.src ≤ k
+
+-- they stand on the rank below: the DIF can have them, directions stand behind them, to which they are tied, their ends are in pairs and named by
+-- places, and each live link has one
 pub record AreConnected (g : Config) (now : ℕ) (c : Connections) (processes : List Process) (below : Seen) : Type 0 where
   pub may : CanManage g c.manage
   pub lines : List Direction
   pub tied : AreTied (link_config g c.manage) now c.flows lines
   pub standing : IsStanding (channels_seen g now c) lines processes below
   pub paired : ArePaired c.channels
+  pub named : AreNamedByPlace c.flows.journal.ends
   pub each : LinksAreConnected c.channels processes

@@ -8,14 +8,13 @@ use Rattle.rina_flood.specs.Network.{Side, after_rows}
 use Rattle.rina_iface.specs.Seen.{Seen}
 use Rattle.rina_law.specs.Direction.{Direction}
 use Rattle.rina_member.specs.declared.management.Management.{Management}
-use Rattle.rina_member.specs.Knowing.{ClaimLinks, hops_of}
+use Rattle.rina_member.specs.Knowing.{AreHopsOfPlan, ClaimLinks, hops_of}
 use Rattle.rina_newest.specs.declared.item.Item.{Item}
 use Rattle.rina_newest.specs.Newest.{IsNewest, kept_at, value_at}
 use Rattle.rina_plan.specs.declared.dif.LinkPlan.{LinkPlan}
 use Rattle.rina_dif.specs.declared.dif.Dif.{Dif}
 use Rattle.rina_dif.specs.Flooding.{members_seen}
 use Rattle.rina_dif.specs.Holding.{Holds}
-use Rattle.rina_dif.specs.Routing.{AreLaidHops}
 
 -- a member of a DIF that holds, in which no allocation has failed
 pub record IsMemberOf (d : Dif) (lines : List Direction) (below : Seen) (place : ℕ) (member : Member) (management : Management) : Type 0 where
@@ -41,7 +40,7 @@ MembersAgree = (d : Dif) (lines : List Direction) (below : Seen) (i j : ℕ) (st
 
 -- Where all is quiet on a walk of links, the items of the member at its one end claim, from the address of the member at the other, the
 -- links that are up there, with known neighbours, and no others. In a static DIF those are the live links of its IPC process, those of the plan
--- before those that enrolments made, of which there are none yet
+-- before those that enrolments made
 abbrev pub QuietMembersKnowLinks : Type 0
 QuietMembersKnowLinks = (d : Dif) (lines : List Direction) (below : Seen) (i j : ℕ) (steps : List (ℕ × Side × ℕ)) (first last : Member) (m n : Management) (p : IpcProcess) → IsMemberOf d lines below i first m → IsMemberOf d lines below j last n → slice_get d.processes i ≡ Some p → IsQuietPath (members_seen d) i steps j
-    → ClaimLinks n.agent.items first.addr (hops_of m.agent.links) × (d.laid.is_static ≡ true → AreLaidHops d.settings.members d.laid.links first p.links (hops_of m.agent.links))
+    → ClaimLinks n.agent.items first.addr (hops_of m.agent.links) × (d.laid.is_static ≡ true → AreHopsOfPlan d.settings.members d.laid.links first p.links (hops_of m.agent.links))

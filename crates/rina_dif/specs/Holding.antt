@@ -1,5 +1,5 @@
 -- What holds of a DIF at every moment.
-use Rattle.std.specs.Prelude.{◌≡◌, ℕ, false, true, List, slice_get, Some, IsSome}
+use Rattle.std.specs.Prelude.{◌≡◌, ℕ, false, true, List, Contains, slice_get, Some, IsSome}
 use Rattle.rina_iface.specs.Seen.{Seen}
 use Rattle.rina_law.specs.Direction.{Direction}
 use Rattle.rina_data.specs.declared.link.Link.{Link}
@@ -9,13 +9,15 @@ use Rattle.rina_dif_law.specs.Carried.{IsCarrying}
 use Rattle.rina_dif_law.specs.Caused.{AreCaused}
 use Rattle.rina_data.specs.Configs.{Config, config_of}
 use Rattle.rina_data.specs.Deciding.{process_of}
-use Rattle.rina_data.specs.Process.{Process, next_hop, queue_place}
+use Rattle.rina_data.specs.Process.{Process, Queue, next_hop, queue_place}
 use Rattle.rina_dif_law.specs.Numbered.{IsNumbered}
 use Rattle.rina_dif_law.specs.Passing.{IsPassed}
 use Rattle.rina_data.specs.Fitting.{IsQos}
 use Rattle.rina_dif_law.specs.Standing.{IsStanding}
 use Rattle.rina_dif_law.specs.Written.{AreWrittenOff}
 use Rattle.rina_flows.specs.Calls.{AreTied}
+use Rattle.rina_member.specs.Knowing.{HasLiveLink}
+use Rattle.rina_queue.specs.declared.queue.Queued.{Queued}
 use Rattle.rina_dif.specs.declared.dif.Dif.{Dif}
 use Rattle.rina_dif.specs.Connected.{AreConnected}
 use Rattle.rina_dif.specs.Flooding.{AreFlooding}
@@ -30,11 +32,32 @@ HaveQueues g process = (place qos : ℕ) (link : Link) → slice_get process.lin
 abbrev pub HasQueues : Config → Process → Type 0
 HasQueues g process = (dst link qos : ℕ) → next_hop dst process.routes ≡ Some link → IsQos g qos → IsSome (queue_place qos link process.queues)
 
--- the queues of an IPC process are those that its DIF says
+-- a number that has a queue has one for each cube
+abbrev pub AreWhole : Config → List Queue → Type 0
+AreWhole g queues = (number a b : ℕ) → IsSome (queue_place a number queues) → IsQos g b → IsSome (queue_place b number queues)
+
+-- a PDU waits at an IPC process for the link of a number
+pub record WaitsAt (process : Process) (number : ℕ) (item : Queued) : Type 0 where
+  pub place : ℕ
+  pub queue : Queue
+  pub is_queue : slice_get process.queues place ≡ Some queue
+  pub link : queue.link ≡ number
+  pub at : ℕ
+  pub is_item : slice_get queue.items at ≡ Some item
+
+-- PDUs wait for live links alone, so that none waits for the number that a further link gets
+abbrev pub WaitsOnLive : Process → Type 0
+WaitsOnLive process = (number : ℕ) (item : Queued) → WaitsAt process number item → HasLiveLink process.links number
+
+-- the queues of an IPC process are those that its DIF says, and so are those that a further link will have: one for each cube, be they made for it, or
+-- those that an earlier link of its number had, in which nothing waits
 pub record IsHoused (g : Config) (p : IpcProcess) : Type 0 where
   pub cap : p.queues.cap ≡ g.cap
   pub links : HaveQueues g (process_of p)
   pub queues : HasQueues g (process_of p)
+  pub cubes : (qos : ℕ) → IsQos g qos → Contains p.queues.cubes qos
+  pub whole : AreWhole g (process_of p).queues
+  pub waits : WaitsOnLive (process_of p)
 
 -- and so for each
 abbrev pub AreHoused : Config → List IpcProcess → Type 0

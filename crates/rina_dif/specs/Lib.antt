@@ -3,10 +3,12 @@ pub mod Asking
 pub mod Binding
 pub mod Building
 pub mod Changing
+pub mod Claiming
 pub mod Clocking
 pub mod Closing
 pub mod Connected
 pub mod Elsewhere
+pub mod Enrolling
 pub mod Facade
 pub mod Flooding
 pub mod FloodingLaws
@@ -17,11 +19,13 @@ pub mod IdRests
 pub mod Laying
 pub mod LinkDue
 pub mod LinkSteps
+pub mod LinkTaking
 pub mod Linking
 pub mod Lower
 pub mod Managing
 pub mod MessageSteps
 pub mod Messaging
+pub mod NewLinks
 pub mod Objects
 pub mod Planned
 pub mod Registering

@@ -1,5 +1,5 @@
 -- The managements of the members of a DIF: from the start, and at every moment.
-use Rattle.std.specs.Prelude.{◌≡◌, ◌<◌, ℕ, Bool, true, false, List, [], All, length, map, slice_get, slice_set, Option, Some, None, if◌then◌else◌}
+use Rattle.std.specs.Prelude.{◌≡◌, ◌<◌, ℕ, Bool, true, false, List, All, length, map, slice_get, slice_set, Option, Some, None, if◌then◌else◌}
 use Rattle.std.specs.List.{filter_map, zip}
 use Rattle.rina_access.specs.declared.rules.Rule.{Rule}
 use Rattle.rina_access.specs.declared.rules.Rules.{Rules}
@@ -13,7 +13,7 @@ use Rattle.rina_plan.specs.declared.dif.LinkPlan.{LinkPlan}
 use Rattle.rina_data.specs.declared.link.Link.{Link}
 use Rattle.rina_data.specs.declared.process.IpcProcess.{IpcProcess}
 use Rattle.rina_data.specs.declared.settings.Member.{Member}
-use Rattle.rina_member.specs.Knowing.{AreRoutesOf, IsLaidOut, IsPlanned, Knows, made_links}
+use Rattle.rina_member.specs.Knowing.{AreRoutesOf, IsLaidOut, IsPlanned, Knows}
 use Rattle.rina_member.specs.declared.management.Management.{Management}
 use Rattle.rina_member.specs.Objects.{first_objects}
 use Rattle.rina_member.specs.Short.{TellsNeighbours}
@@ -76,14 +76,12 @@ nodes_with d at after = enrolled_nodes d.settings.members (states_of (slice_set 
 abbrev pub AreBounded : List Link → Type 0
 AreBounded links = (k : ℕ) (link : Link) → slice_get links k ≡ Some link → link.number < 16
 
--- at a tick, the management of a member knows the live links of its IPC process. In a static DIF the first of them are those of the plan;
--- behind them stand those that enrolments made, and there are none, since no call makes one yet. The next hops of the IPC process are over the
--- items that the management holds: the first links of least walks over the edges that the link states of both ends claim. And the member tells
--- short messages to its neighbours alone
+-- at a tick, the management of a member knows the live links of its IPC process. In a static DIF the first of them are those of the plan, and
+-- behind them stand those that enrolments made. The next hops of the IPC process are over the items that the management holds: the first links of
+-- least walks over the edges that the link states of both ends claim. And the member tells short messages to its neighbours alone
 pub record IsManaged (is_static : Bool) (members : List Member) (plans : List LinkPlan) (now : ℕ) (m : Member) (p : IpcProcess) (g : Management) : Type 0 where
   pub knows : Knows now m p.links g.agent
   pub planned : is_static ≡ true → IsPlanned members plans m p.links g.agent
-  pub none_made : is_static ≡ true → made_links members plans m p.links ≡ []
   pub bounded : AreBounded p.links
   pub routes : AreRoutesOf g.agent members p.routes
   pub tells : TellsNeighbours g.agent

@@ -1,27 +1,21 @@
 -- The next hops of the IPC processes of a DIF.
-use Rattle.std.specs.Prelude.{◌≡◌, ℕ, ◌<◌, ◌⊎◌, Bool, true, List, [], length, slice_get, slice_set, Some}
+use Rattle.std.specs.Prelude.{◌≡◌, ℕ, ◌<◌, ◌⊎◌, Bool, true, List, length, slice_get, slice_set, Some}
 use Rattle.rina_plan.specs.declared.dif.LinkPlan.{LinkPlan}
-use Rattle.rina_route.specs.declared.link.Link.{Link as Hop}
-use Rattle.rina_data.specs.declared.link.Link.{Link}
 use Rattle.rina_data.specs.declared.link.Route.{Route}
 use Rattle.rina_data.specs.declared.process.IpcProcess.{IpcProcess}
 use Rattle.rina_data.specs.declared.settings.Member.{Member}
 use Rattle.rina_data.specs.Process.{Process}
 use Rattle.rina_dif_law.specs.Dif.{DifSeen, with_process}
-use Rattle.rina_member.specs.Knowing.{AreHopsOfPlan, AreRoutesOf, all_claims, hops_of, made_links}
+use Rattle.rina_member.specs.Knowing.{AreHopsOfPlan, AreRoutesOf, all_claims, hops_of}
 use Rattle.rina_member.specs.Routing.{AreRoutesOver, edges_of, live_links}
 use Rattle.rina_member.specs.declared.management.Management.{Management}
 
--- in a static DIF, where these are the links of the DIF as they were laid, the links over which PDUs may leave an IPC process are, first, its
--- live ones of those; each other one is a live link that an enrolment made, and there are none, since no call makes one yet
-abbrev pub AreLaidHops : List Member → List LinkPlan → Member → List Link → List Hop → Type 0
-AreLaidHops members plans m links hops = AreHopsOfPlan members plans m links hops × (made_links members plans m links ≡ [])
-
 -- each IPC process has its next hops over the links that are up at its management, with known neighbours, and the edges that the items of
--- this claim. In a static DIF those are its live links, where these are the links of the DIF as they were laid
+-- this claim. In a static DIF, where these are the links of the DIF as they were laid, the first of those are its live ones of these, and
+-- each other one is a live link that an enrolment made
 abbrev pub HaveRoutes : Bool → List Member → List LinkPlan → List IpcProcess → List Management → Type 0
 HaveRoutes is_static members plans processes managements = (k : ℕ) (m : Member) (p : IpcProcess) (g : Management) → slice_get members k ≡ Some m → slice_get processes k ≡ Some p → slice_get managements k ≡ Some g
-    → AreRoutesOver m.addr (hops_of g.agent.links) (all_claims g.agent.items) members p.routes × (is_static ≡ true → AreLaidHops members plans m p.links (hops_of g.agent.links))
+    → AreRoutesOver m.addr (hops_of g.agent.links) (all_claims g.agent.items) members p.routes × (is_static ≡ true → AreHopsOfPlan members plans m p.links (hops_of g.agent.links))
 
 -- each has them over its live links and the links of the DIF as they were laid, as from the start
 abbrev pub HaveFirstRoutes : List Member → List LinkPlan → List IpcProcess → Type 0

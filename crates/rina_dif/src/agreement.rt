@@ -14,7 +14,7 @@ pub fn members_keep_the_newest_and_agree()
 
 /// Where no message waits or is on its way on a walk of links that are up, the items of the member at its one end claim, from the
 /// address of the member at the other, the links that are up there, with known neighbours, and no others. In a static DIF those are
-/// the live links of its IPC process: those of the plan, and behind them those that enrolments made, of which there are none yet. So the
+/// the live links of its IPC process: those of the plan, and behind them those that enrolments made. So the
 /// next hops of members that such walks join are over those links of all of them.
 pub fn quiet_members_know_live_links()
     ensures { QuietMembersKnowLinks }

@@ -14,7 +14,7 @@ ghost use Rattle.rina_dif.specs.Facade.{GoesOn, OthersStand};
 ghost use Rattle.rina_dif.specs.Holding.{Holds, LinksStand, Stands};
 ghost use Rattle.rina_dif.specs.LinkDue.{IsLinkTurn, rank_of};
 ghost use Rattle.rina_dif.specs.LinkSteps.{DoesLink, ServesOver};
-ghost use Rattle.rina_dif.specs.Lower.{FreesBelow, FreesOver};
+ghost use Rattle.rina_dif.specs.Lower.{ClocksBelow, FreesBelow, FreesOver, name_here, name_of};
 ghost use Rattle.rina_dif.specs.Changing.{ManagesStep};
 ghost use Rattle.rina_dif.specs.MessageSteps.{IfIdle};
 ghost use Rattle.rina_dif.specs.Shown.{seen_of};
@@ -289,8 +289,8 @@ impl Dif {
     }
 
     /// Loses the first link of the IPC process at a place that is lost, and all flows there with it where it was the last
-    /// one and its flow below has failed; or does the first item that is due at its links and at the flows of its node; or offers
-    /// the message that is due at its link of the least number.
+    /// one and its flow below has failed; or takes a flow that came in as a new link; or does the first item that is due at its links and
+    /// at the flows of its node; or offers the message that is due at its link of the least number.
     fn step_at<F: Facility>(
         &mut self,
         alloc: Global,
@@ -307,7 +307,7 @@ impl Dif {
         ensures below { F.same_below below.old below.new }
         ensures later { IsLater (F.seen below.old) (F.seen below.new) }
         ensures does { (lines : List Direction) → Holds self.old lines (F.seen below.old) → StepsHere self.old lines (F.seen below.old) node result self.new (F.seen below.new) }
-        ensures lower { FreesBelow (below.new ≡ below.old) (FreesAsSeen F.seen F.frees_both F.does_free below.old below.new) result }
+        ensures lower { ClocksBelow (λ x fac answer y. F.does_incoming x fac node (name_of self.old at) answer y) (FreesAsSeen F.seen F.frees_both F.does_free) below.old result below.new }
         ensures same { (self.new.settings ≡ self.old.settings) × (self.new.failed ≡ self.old.failed) }
         ensures laid { self.new.laid ≡ self.old.laid }
         ensures whole { self.new ≡ record self.old { processes = self.new.processes; connections = self.new.connections; flows = self.new.flows; ids = self.new.ids; managements = self.new.managements } }
@@ -322,19 +322,21 @@ impl Dif {
                 self.lose_at(alloc, &*below, at, node, loss)?;
                 Ok(ClockStep::LinkLost { link: lost.number })
             }
-            None => self.serve_any(alloc, below, at, node),
+            None => self.claim_or_serve(alloc, below, at, node),
         }
     }
 
     /// Takes one step of the IPC process at a node by the clock, the first of these that is due: a link is lost, whose
     /// flow below was refused, has failed, or was closed, the one of the least number first, the end of its management
     /// connection closes with it, and where no link is left
-    /// and that flow has failed, all flows of the node fail with it; pieces that are held of a state that has ended are
-    /// written off; a number is given up, and its flow fails; an acknowledgement is made; a number is sent again. Of each of
+    /// and that flow has failed, all flows of the node fail with it; a flow that came in below for the member is claimed as a new link, where the
+    /// IPC process has fewer than 16 live links, the first facility in the order of their numbers going first; pieces that are held of a state that
+    /// has ended are written off; a number is given up, and its flow fails; an acknowledgement is made; a number is sent again. Of each of
     /// the last four the management connections of the live links go first, the one of the least link number before the others,
     /// and then the flows there, the one of the least CEP-id first. Where a management connection gives a number up the flow
     /// below of its link is freed, and no flow fails. Last of all a message of management is offered whole at its link, the one
-    /// of the least number at which one is due. Answers Idle exactly where none is due. Refused with `CountSpent`, and nothing changes,
+    /// of the least number at which one is due. A flow that came in and that no management connection awaits is claimed too, and is no link:
+    /// the step goes on as where none came in. Answers Idle exactly where none is due. Refused with `CountSpent`, and nothing changes,
     /// where a link is lost and the member has no version count left for its link state.
     pub fn clock_step<F: Facility>(
         &mut self,
@@ -348,7 +350,7 @@ impl Dif {
         ensures below { F.same_below below.old below.new }
         ensures later { IsLater (F.seen below.old) (F.seen below.new) }
         ensures does { (lines : List Direction) → Holds self.old lines (F.seen below.old) → ClockSteps self.old lines (F.seen below.old) node result self.new (F.seen below.new) }
-        ensures lower { FreesBelow (below.new ≡ below.old) (FreesAsSeen F.seen F.frees_both F.does_free below.old below.new) result }
+        ensures lower { ClocksBelow (λ x fac answer y. F.does_incoming x fac node (name_here self.old node) answer y) (FreesAsSeen F.seen F.frees_both F.does_free) below.old result below.new }
         ensures fails_late { (lines : List Direction) → Holds self.old lines (F.seen below.old) → FailsLate self.old lines (F.seen below.old) self.new }
         ensures goes_on { GoesOn self.old self.new }
         ensures silent { IsSilent (seen_of self.old) (seen_of self.new) }

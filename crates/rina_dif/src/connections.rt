@@ -73,7 +73,7 @@ fn channel_of(settings: &Settings, processes: &Processes, port: Port, partner: A
 }
 
 /// The places of the two ends that are made next. None where they have no numbers.
-fn next_places(made: usize) -> Option<(Addr, Addr)>
+pub(crate) fn next_places(made: usize) -> Option<(Addr, Addr)>
     ensures { IfSome result (λ places. (places.0 ≡ made) × (places.1 ≡ suc made) × (places.1 < 2 ^ 32)) }
 {
     let near = Addr::try_from(made).ok()?;

@@ -45,7 +45,7 @@ pub(crate) const MOST_LINKS: u16 = 16;
 /// The IPC processes of a DIF, each at the place of its member. A contract sees the list of them.
 #[derive(Drop)]
 pub struct Processes {
-    items: Vec<IpcProcess>,
+    pub(crate) items: Vec<IpcProcess>,
 }
 
 impl Model for Processes {

@@ -1,6 +1,7 @@
 //! When a DIF rests.
-ghost use Rattle.std.specs.Prelude.{◌≡◌, ◌<◌, true};
+ghost use Rattle.std.specs.Prelude.{◌≡◌, ◌<◌, [], true};
 ghost use Rattle.rina_dif.specs.Resting.{AreAtRest, AreEmpty, IsAtRest, NoneComes, NoneWaits, RestsUntil};
+ghost use Rattle.rina_dif.specs.Shown.{seen_of};
 
 use crate::dif::Dif;
 use rina_base::Tick;
@@ -72,6 +73,13 @@ fn none_waits(managements: &[Management]) -> bool
 }
 
 impl Dif {
+    /// Whether no far end waits to be claimed.
+    pub fn none_waits(&self) -> bool
+        ensures { result ≡ true → (seen_of self.now).waiting ≡ [] }
+    {
+        self.waiting.len() == 0
+    }
+
     /// A tick before which the DIF has nothing to do over the rank below, whatever the clock says, as long as that rank
     /// shows the same. It is after the clock only where that is so now. Takes no memory.
     pub fn rests_until<F: Facility>(&self, below: &F) -> Tick

@@ -1,3 +1,4 @@
 pub mod Apart
 mod Keys
 mod Stay
+mod Written

@@ -11,7 +11,7 @@ use Rattle.rina_iface.specs.declared.state.PortState.TheVariants.{Pending, Alloc
 use Rattle.rina_iface.specs.declared.state.Role.{Role}
 use Rattle.rina_iface.specs.declared.state.Role.TheVariants.{Asker, Far}
 use Rattle.rina_iface.specs.Ends.{drawn_at}
-use Rattle.rina_iface.specs.Seen.{Fac, Offer, Seen, is_member, offered, with_fac}
+use Rattle.rina_iface.specs.Seen.{Fac, Offer, Seen, cube_in, is_member, offered, with_fac}
 
 abbrev pub unless_offered : Option Offer → Option AllocateError → Option AllocateError
 unless_offered None own = Some NoCube
@@ -48,12 +48,13 @@ Makes Pending f flow port ask cube f' = f' ≡ record f { ends = f.ends ++ asker
 Makes Allocated f flow port ask cube f' = (node : ℕ) × (f' ≡ record f { ends = f.ends ++ asker_end flow port ask cube Allocated ∷ far_end flow (next_port f ask.fac node) ask cube ∷ []; waiting = f.waiting ++ (length f.ends + 1) ∷ [] })
 Makes state f flow port ask cube f' = ⊥
 
--- the flow was asked for, of the first cube that meets the wish, at a port that was never drawn before
+-- the flow was asked for, of the first cube that meets the wish, which the facility finds by its id too, at a port that was never drawn before
 pub record IsAsked (old : Seen) (ask : Ask) (port : Port) (new : Seen) : Type 0 where
   pub facility : Fac
   pub stands : slice_get old.facs ask.fac ≡ Some facility
   pub cube : Offer
   pub offer : offered facility.cubes ask.want ≡ Some cube
+  pub by_id : cube_in facility.cubes cube.id ≡ Some cube
   pub fresh : port ≡ next_port facility ask.fac ask.node
   pub flow : FlowName
   pub at : flow.tick ≡ old.now

@@ -23,7 +23,7 @@ use Rattle.rina_wire.proofs.SoundCut.{sound_cuts}
 use Rattle.rina_notes.specs.Look.{noted, state_notes}
 use Rattle.rina_notes.specs.Sites.{port_in}
 use Rattle.rina_notes.specs.Told.{answer_told, wire_told}
-use Rattle.rina_words.specs.Built.{event_at}
+use Rattle.rina_schedule.specs.Line.{line_at}
 use Rattle.rina_words.specs.Step.{Acts, Stage, rounds_after, wire_of}
 use Rattle.rina_run.specs.Run.{LineDoes, Runs}
 use Rattle.rina_laws.specs.Cuts.{FailuresAreCuts, IsByCut}
@@ -124,7 +124,7 @@ line_does plan fac fail number (Ok (Some event)) s ns s' sound d =
     let told = state_notes plan number s'.run.tower d.mid.run.labels in
     let here : IsHere plan fac fail number (Ok (Some event)) d.answer → Why = λ x. inr (subst (IsHere plan fac fail number (Ok (Some event))) (sym d.notes) (here_in plan fac fail number (Ok (Some event)) d.answer told x)) in
     let all = keeps_wire (Explains fail Why) (explains fail Why) fac in
-    let clock = free_clocks P (keeps_free (Explains fail Why) (λ now l i e there why has. why (back_freed fail l i e has)) fac) in
+    let clock = free_clocks P all (keeps_free (Explains fail Why) (λ now l i e there why has. why (back_freed fail l i e has)) fac) in
     let acted = acts P all Never clock plan number event s d.answer d.mid (special plan fac fail Why number event s d.answer d.mid here h d.acts) d.acts (never_word plan number event s d.answer d.mid d.acts) h in
     let rounds = rounds_after plan.rounds event in
     rounds_by P all Never clock rounds d.mid.shelf s'.shelf d.mid.run.tower s'.run.tower d.rounds (never_after rounds d.mid.shelf d.mid.run.tower s'.shelf s'.run.tower d.rounds) acted
@@ -137,26 +137,26 @@ record IsAmong (plan : Plan) (fac : ℕ) (fail : Fail) (number : ℕ) (lines : L
   before : ℕ
   line : List ℕ
   stands : slice_get lines before ≡ Some line
-  here : IsHere plan fac fail (number + before) (event_at line) ns
+  here : IsHere plan fac fail (number + before) (line_at line) ns
 
 runs : (plan : Plan) (fac : ℕ) (fail : Fail) (number : ℕ) (s : Stage) (ls : List (List ℕ)) (ns : List Note) (s' : Stage) → IsSound (wires_of s.run.tower) → Runs plan number s ls ns s' → FailedOn fac fail (wires_of s'.run.tower) → FailedOn fac fail (wires_of s.run.tower) ⊎ IsAmong plan fac fail number ls ns
 runs plan fac fail number s [] ns s' sound d failed = inl (subst (λ (v : Stage). FailedOn fac fail (wires_of v.run.tower)) d.1 failed)
 runs plan fac fail number s (l ∷ ls) ns s' sound (mid, first, rest, does, others, is) failed =
-    let h = line_does plan fac fail number (event_at l) s first mid sound does in
+    let h = line_does plan fac fail number (line_at l) s first mid sound does in
     elim (runs plan fac fail (number + 1) mid ls rest s' h.sound others failed) [
       | inl was ↦ elim (h.holds was.line was.wire was.has) [
         | inl old ↦ inl old
         | inr here ↦
             let same : number ≡ number + 0 = omega arith in
-            let all = here_in plan fac fail number (event_at l) first rest here in
-            let there : IsHere plan fac fail (number + 0) (event_at l) ns = subst (λ (n : ℕ). IsHere plan fac fail n (event_at l) ns) same (subst (IsHere plan fac fail number (event_at l)) (sym is) all) in
+            let all = here_in plan fac fail number (line_at l) first rest here in
+            let there : IsHere plan fac fail (number + 0) (line_at l) ns = subst (λ (n : ℕ). IsHere plan fac fail n (line_at l) ns) same (subst (IsHere plan fac fail number (line_at l)) (sym is) all) in
             inr (record { before = 0; line = l; stands = refl; here = there })
       ]
       | inr later ↦
           let same : (number + 1) + later.before ≡ number + suc later.before = omega arith in
           let h' = later.here in
-          let all : IsHere plan fac fail ((number + 1) + later.before) (event_at later.line) ns = record { at = h'.at; wire = h'.wire; asks = h'.asks; names = h'.names; is = h'.is; told = subst (λ (xs : List Note). Contains xs (notes.Line ((number + 1) + later.before) h'.at Done)) (sym is) (Contains-append_right first rest _ h'.told) } in
-          inr (record { before = suc later.before; line = later.line; stands = later.stands; here = subst (λ (n : ℕ). IsHere plan fac fail n (event_at later.line) ns) same all })
+          let all : IsHere plan fac fail ((number + 1) + later.before) (line_at later.line) ns = record { at = h'.at; wire = h'.wire; asks = h'.asks; names = h'.names; is = h'.is; told = subst (λ (xs : List Note). Contains xs (notes.Line ((number + 1) + later.before) h'.at Done)) (sym is) (Contains-append_right first rest _ h'.told) } in
+          inr (record { before = suc later.before; line = later.line; stands = later.stands; here = subst (λ (n : ℕ). IsHere plan fac fail n (line_at later.line) ns) same all })
     ]
 
 -- ---- the opening

@@ -14,8 +14,9 @@ use Rattle.rina_tower.specs.Ranks.{seen_of}
 use Rattle.rina_wire.specs.Air.{Air, Line, end_at, on_end, put, put_at, put_end, seen_of as seen_of_wires, wire_at}
 use Rattle.rina_wire.specs.Free.{closed_at, closed_both, closed_in, freed_at}
 use Rattle.rina_wire.specs.Send.{mate}
-use Rattle.rina_wire.proofs.Carried.{end_is, has_line}
-use Rattle.rina_laws.specs.Frames.{GiveUpsEmptyOneWire, wires_of}
+use Rattle.rina_wire.proofs.Carried.{IsOn, end_is, has_line}
+use Rattle.rina_laws.specs.Frames.{AreAsked, GiveUpsEmptyOneWire, IsEmptied, wires_of}
+use Rattle.rina_laws.proofs.WiresAsked.{WasLine, asked_end, asked_was}
 use Rattle.rina_laws.proofs.WiresOf.{wires_rank}
 
 -- an end that had sent and got the same
@@ -50,25 +51,32 @@ emptied a port line place e wire found is state =
     let there : put_end freed_at line (place_in port line.ends) ≡ after = ap (put_end freed_at line) found ∙ ap (put_at freed_at line place) is ∙ done in
     ap (λ (o : Option Line). put a.wires port.fac (option_map (λ (l : Line). put_end freed_at l (place_in port l.ends)) o)) wire ∙ ap (λ (l : Line). slice_set a.wires port.fac l) there
 
+-- so of the wire of the port, where the wires were asked before
+emptied_one : (fac : ℕ) (a b a' : Air) (port : Port) (e : End) → port.fac ≡ fac → (asks : AreAsked a b) (on : IsOn b port e) → e.state ≡ Allocated → a' ≡ on_end b port freed_at → WasLine a port.fac on.line → IsEmptied fac a a'
+emptied_one fac a b a' port e same asks on state air was =
+    let after : Line = record on.line { ends = closed_both on.line.ends on.at.place; flights = [] } in
+    let wires : a'.wires ≡ slice_set b.wires port.fac after = ap (λ (z : Air). z.wires) air ∙ emptied b port on.line on.at.place e on.wire on.at.found on.at.is state in
+    let is : slice_get a'.wires port.fac ≡ Some after = ap (λ (ls : List Line). slice_get ls port.fac) wires ∙ slice_get-set_same b.wires port.fac on.line after on.wire in
+    record {
+      before = was.line;
+      was = subst (λ (n : ℕ). slice_get a.wires n ≡ Some was.line) same was.wire;
+      after = after;
+      is = subst (λ (n : ℕ). slice_get a'.wires n ≡ Some after) same is;
+      none = refl;
+      ends = λ i x x' h h'.
+          let w = closed_was on.line.ends on.at.place i x' h' in
+          let there : At was.line.ends i w.0 = subst (λ (es : List End). At es i w.0) was.ends w.1 in
+          let one : w.0 ≡ x = same_Some w.0 x (sym there ∙ h) in
+          (w.2 ∙ ap (λ (z : End). z.sent) one, w.3 ∙ ap (λ (z : End). z.got) one);
+      asked = b;
+      asks = asks;
+      others = λ other ne. ap (λ (ls : List Line). slice_get ls other) wires ∙ slice_get-set_other b.wires port.fac other after (λ at. ne (at ∙ same));
+    }
+
 pub give_ups_empty : GiveUpsEmptyOneWire
 give_ups_empty fac frame t t' g =
     let a : Air = wires_of t in
     let state : state_of (seen_of_wires a) g.port ≡ Some Allocated = sym (ap (option_and_then (λ (v : Tower). state_of (seen_of v) g.port)) (wires_rank t)) ∙ g.allocated in
     let opened = open_end (end_at a g.port) (sym (ap (option_map (λ (e : End). e.state)) (end_is a g.port)) ∙ state) in
-    let on = has_line a g.port opened.0 opened.1 in
-    let after : Line = record on.line { ends = closed_both on.line.ends on.at.place; flights = [] } in
-    let made : (on_end a g.port freed_at).wires ≡ slice_set a.wires g.port.fac after = emptied a g.port on.line on.at.place opened.0 on.wire on.at.found on.at.is opened.2 in
-    let wires : (wires_of t').wires ≡ slice_set a.wires g.port.fac after = ap (λ (z : Air). z.wires) g.frees.air ∙ made in
-    let is : slice_get (wires_of t').wires g.port.fac ≡ Some after = ap (λ (ls : List Line). slice_get ls g.port.fac) wires ∙ slice_get-set_same a.wires g.port.fac on.line after on.wire in
-    record {
-      before = on.line;
-      was = subst (λ (n : ℕ). slice_get a.wires n ≡ Some on.line) g.its_wire on.wire;
-      after = after;
-      is = subst (λ (n : ℕ). slice_get (wires_of t').wires n ≡ Some after) g.its_wire is;
-      none = refl;
-      ends = λ i e e' h h'.
-          let w = closed_was on.line.ends on.at.place i e' h' in
-          let same : w.0 ≡ e = same_Some w.0 e (sym w.1 ∙ h) in
-          (w.2 ∙ ap (λ (z : End). z.sent) same, w.3 ∙ ap (λ (z : End). z.got) same);
-      others = λ other ne. ap (λ (ls : List Line). slice_get ls other) wires ∙ slice_get-set_other a.wires g.port.fac other after (λ same. ne (same ∙ g.its_wire));
-    }
+    let on = has_line g.asked g.port opened.0 (asked_end a g.asked g.asks g.port ∙ opened.1) in
+    emptied_one fac a g.asked (wires_of t') g.port opened.0 g.its_wire g.asks on opened.2 g.frees.air (asked_was a g.asked g.asks g.port.fac on.line on.wire)

@@ -8,7 +8,7 @@ use Rattle.rina_stack.specs.declared.plan.Plan.{Plan}
 use Rattle.rina_tower.specs.declared.tower.Tower.{Tower, Wires, Rank'}
 use Rattle.rina_tower.specs.Ranks.{now_of}
 use Rattle.rina_wire.specs.Air.{Line, wire_at}
-use Rattle.rina_words.specs.Built.{event_at}
+use Rattle.rina_schedule.specs.Line.{line_at}
 use Rattle.rina_run.specs.Run.{LineDoes, Runs}
 use Rattle.rina_words.specs.Step.{Stage, rounds_after}
 use Rattle.rina_laws.specs.Frames.{FramesArriveOnce, GivesUpOn, IsSpared, Touches, wires_of}
@@ -29,15 +29,15 @@ line_does fac k plan number (Ok (Some event)) s ns s' spared d unspoilt h =
 line_does fac k plan number (Err e) s ns s' spared d unspoilt h = absurd d
 
 -- one line more
-runs_more : (plan : Plan) (number : ℕ) (w : Stage) (ls : List (List ℕ)) (ns : List Note) (mid : Stage) (l : List ℕ) (more : List Note) (w' : Stage) → Runs plan number w ls ns mid → LineDoes plan (number + length ls) (event_at l) mid more w' → Runs plan number w (ls ++ l ∷ []) (ns ++ more) w'
+runs_more : (plan : Plan) (number : ℕ) (w : Stage) (ls : List (List ℕ)) (ns : List Note) (mid : Stage) (l : List ℕ) (more : List Note) (w' : Stage) → Runs plan number w ls ns mid → LineDoes plan (number + length ls) (line_at l) mid more w' → Runs plan number w (ls ++ l ∷ []) (ns ++ more) w'
 runs_more plan number w [] ns mid l more w' r d =
     let same : number + 0 ≡ number = omega arith in
-    let d' : LineDoes plan number (event_at l) w more w' = subst (λ (v : Stage). LineDoes plan number (event_at l) v more w') r.1 (subst (λ (n : ℕ). LineDoes plan n (event_at l) mid more w') same d) in
+    let d' : LineDoes plan number (line_at l) w more w' = subst (λ (v : Stage). LineDoes plan number (line_at l) v more w') r.1 (subst (λ (n : ℕ). LineDoes plan n (line_at l) mid more w') same d) in
     let notes : ns ++ more ≡ more ++ [] = rw r.0 (sym (append-nil more)) in
     (w', more, [], d', (refl, refl), notes)
 runs_more plan number w (k ∷ ls) ns mid l more w' (next, first, rest, does, others, is) d =
     let same : number + suc (length ls) ≡ (number + 1) + length ls = omega arith in
-    let others' = runs_more plan (number + 1) next ls rest mid l more w' others (subst (λ (n : ℕ). LineDoes plan n (event_at l) mid more w') same d) in
+    let others' = runs_more plan (number + 1) next ls rest mid l more w' others (subst (λ (n : ℕ). LineDoes plan n (line_at l) mid more w') same d) in
     (next, first, rest ++ more, does, others', ap (λ (xs : List Note). xs ++ more) is ∙ append_assoc first rest more)
 
 -- what stands behind some lines, and those before it
@@ -53,10 +53,10 @@ before_middle (x ∷ xs) ys = ap (λ (zs : List (List ℕ)). x ∷ zs) (before_m
 runs : (fac k : ℕ) (plan : Plan) (start : Stage) (number : ℕ) (done : List (List ℕ)) (before : List Note) (w : Stage) (ls : List (List ℕ)) (ns : List Note) (w' : Stage) → number ≡ 1 + length done → Runs plan 1 start done before w → IsSpared plan start fac k (done ++ ls) → (d : Runs plan number w ls ns w') → (SomeStep (GivesUpOn fac k) plan number w ls ns w' d → ⊥) → Holds (IsCarrying fac k) w.run.tower → Holds (IsCarrying fac k) w'.run.tower
 runs fac k plan start number done before w [] ns w' at ran spared d unspoilt h = subst (λ (v : Stage). Holds (IsCarrying fac k) v.run.tower) (sym d.1) h
 runs fac k plan start number done before w (l ∷ ls) ns w' at ran spared (mid, first, rest, does, others, is) unspoilt h =
-    let here : (event : Event) → event_at l ≡ Ok (Some event) → Touches plan fac k w.run event → ⊥ = λ event read touches.
+    let here : (event : Event) → line_at l ≡ Ok (Some event) → Touches plan fac k w.run event → ⊥ = λ event read touches.
     spared (length done) l event before w (at_middle done ls l) read (subst (λ (xs : List (List ℕ)). Runs plan 1 start xs before w) (sym (before_middle done (l ∷ ls))) ran) touches in
-    let next = line_does fac k plan number (event_at l) w first mid here does (λ x. unspoilt (inl x)) h in
-    let ran' = runs_more plan 1 start done before w l first mid ran (subst (λ (n : ℕ). LineDoes plan n (event_at l) w first mid) at does) in
+    let next = line_does fac k plan number (line_at l) w first mid here does (λ x. unspoilt (inl x)) h in
+    let ran' = runs_more plan 1 start done before w l first mid ran (subst (λ (n : ℕ). LineDoes plan n (line_at l) w first mid) at does) in
     let at' : number + 1 ≡ 1 + length (done ++ l ∷ []) = omega (arith, at, length-append done (l ∷ [])) in
     let spared' : IsSpared plan start fac k ((done ++ l ∷ []) ++ ls) = subst (IsSpared plan start fac k) (sym (append_assoc done (l ∷ []) ls)) spared in
     runs fac k plan start (number + 1) (done ++ l ∷ []) (before ++ first) mid ls rest w' at' ran' spared' others (λ x. unspoilt (inr x)) next

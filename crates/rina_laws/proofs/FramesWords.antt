@@ -1,10 +1,11 @@
 -- Each word of a schedule keeps a frame of the wires carried, unless it touches it.
-use Rattle.std.proofs.Common.{◌≡◌, ◌≢◌, ℕ, List, [], ◌∷◌, Some, Option, option_and_then, Result, Ok, Err, refl, sym, ◌∙◌, ap, subst}
+use Rattle.std.proofs.Common.{◌≡◌, ◌≢◌, ℕ, List, [], ◌∷◌, Some, Option, option_and_then, option_map, Result, Ok, Err, refl, sym, ◌∙◌, ap, subst}
 use Rattle.rina_base.specs.declared.number.Num.{Num}
 use Rattle.rina_base.specs.declared.number.Port.{Port}
 use Rattle.rina_data.specs.declared.step.ClockStep.{ClockStep}
 use Rattle.rina_data.specs.declared.step.ClockStep.TheVariants.{GaveUp}
 use Rattle.rina_data.specs.declared.step.StepError.{StepError}
+use Rattle.rina_iface.specs.declared.ends.End.{End}
 use Rattle.rina_iface.specs.declared.error.FreeError.TheVariants as freeing
 use Rattle.rina_iface.specs.Seen.{state_of}
 use Rattle.rina_iface.specs.declared.state.PortState.TheVariants.{Allocated}
@@ -16,17 +17,19 @@ use Rattle.rina_tower.specs.declared.tower.Tower.{Tower}
 use Rattle.rina_tower.specs.Ranks.{seen_of}
 use Rattle.rina_tower.specs.Steps.{ClocksAt}
 use Rattle.rina_wire.specs.declared.flight.Flight.{Flight}
-use Rattle.rina_wire.specs.Air.{Air, Line, wire_at}
+use Rattle.rina_wire.specs.Air.{Air, Line, seen_of as seen_of_wires, wire_at}
 use Rattle.rina_wire.specs.Free.{FreesOn}
+use Rattle.rina_wire.proofs.Carried.{end_is}
 use Rattle.rina_wire.proofs.SoundFree.{sound_frees}
 use Rattle.rina_notes.specs.Look.{state_at}
 use Rattle.rina_notes.specs.Sites.{port_in}
 use Rattle.rina_words.specs.Step.{Acts, Stage, wire_of}
-use Rattle.rina_laws.specs.Frames.{GivesUpOn, IsInFlight, IsOpenPort, Touches, copies_of, wires_of}
+use Rattle.rina_laws.specs.Frames.{AreAsked, GivesUpOn, IsInFlight, IsOpenPort, Touches, copies_of, wires_of}
 use Rattle.rina_laws.specs.SomeStep.{SomeOfWord}
 use Rattle.rina_laws.proofs.FramesCalls.{IsCarrying, frame_line}
 use Rattle.rina_laws.proofs.FramesEvents.{NoneWith, keeps_cuts, keeps_frees, keeps_holds, keeps_loses, keeps_repeats}
 use Rattle.rina_laws.proofs.FramesKept.{Carries}
+use Rattle.rina_laws.proofs.WiresAsked.{asked_end, asked_was}
 use Rattle.rina_laws.proofs.WiresAt.{Holds, Keeps, KeepsClocks, clocks_at}
 use Rattle.rina_laws.proofs.WiresCalls.{OnWire, keeps_wire}
 use Rattle.rina_laws.proofs.WiresOf.{wires_rank}
@@ -72,25 +75,37 @@ spares fac k plan line event s ns s' spared h d = tt
 not_freed : (fac k : ℕ) (a : Air) (port : Port) (a' : Air) → IsCarrying fac k a → FreesOn a port (Err freeing.Memory) a' → IsCarrying fac k a'
 not_freed fac k a port a' c g = record { sound = sound_frees a port (Err freeing.Memory) a' c.sound g; holds = subst (OnWire (Carries k) fac) (sym g) c.holds }
 
+-- the port is allocated before the wires were asked, if it is after
+was_open : (t : Tower) (asked : Air) (port : Port) → AreAsked (wires_of t) asked → state_of (seen_of_wires asked) port ≡ Some Allocated → state_at t 0 port ≡ Some Allocated
+was_open t asked port asks state =
+    let a : Air = wires_of t in
+    let same : state_of (seen_of_wires asked) port ≡ state_of (seen_of_wires a) port = ap (option_map (λ (e : End). e.state)) (end_is asked port ∙ asked_end a asked asks port ∙ sym (end_is a port)) in
+    ap (option_and_then (λ (v : Tower). state_of (seen_of v) port)) (wires_rank t) ∙ sym same ∙ state
+
 -- a management connection gives a number up, and the frame is not in flight on the wire of its link
-gives_up : (fac k r dif node : ℕ) (x : Result ClockStep StepError) (t t' : Tower) (num : Num) (port : Port) → (GivesUpOn fac k t t' → ⊥) → ClocksAt r dif node x t t' → r ≡ 1 → x ≡ Ok (GaveUp num) → num.cep ≡ 0 → FreesOn (wires_of t) port (Ok tt) (wires_of t') → NoneWith fac k (wires_of t) port
-gives_up fac k r dif node x t t' num port unspoilt d low is cep frees l same state at = none_flies fac k t l (λ flies. unspoilt (record {
-  dif = dif;
-  node = node;
-  num = num;
-  management = cep;
-  does = subst (λ (n : ℕ). ClocksAt n dif node (Ok (GaveUp num)) t t') low (subst (λ (y : Result ClockStep StepError). ClocksAt r dif node y t t') is d);
-  port = port;
-  its_wire = same;
-  allocated = ap (option_and_then (λ (v : Tower). state_of (seen_of v) port)) (wires_rank t) ∙ state;
-  frees = frees;
-  flies = flies;
-})) at
+gives_up : (fac k r dif node : ℕ) (x : Result ClockStep StepError) (t t' : Tower) (asked : Air) (num : Num) (port : Port) → (GivesUpOn fac k t t' → ⊥) → ClocksAt r dif node x t t' → r ≡ 1 → AreAsked (wires_of t) asked → x ≡ Ok (GaveUp num) → num.cep ≡ 0 → FreesOn asked port (Ok tt) (wires_of t') → NoneWith fac k asked port
+gives_up fac k r dif node x t t' asked num port unspoilt d low asks is cep frees l same state at =
+    let was = asked_was (wires_of t) asked asks fac l at in
+    let none : copies_of k was.line.flights ≡ [] = none_flies fac k t was.line (λ flies. unspoilt (record {
+      dif = dif;
+      node = node;
+      num = num;
+      management = cep;
+      does = subst (λ (n : ℕ). ClocksAt n dif node (Ok (GaveUp num)) t t') low (subst (λ (y : Result ClockStep StepError). ClocksAt r dif node y t t') is d);
+      port = port;
+      its_wire = same;
+      allocated = was_open t asked port asks state;
+      asked = asked;
+      asks = asks;
+      frees = frees;
+      flies = flies;
+    })) was.wire in
+    ap (copies_of k) was.flights ∙ none
 
 pub frame_clocks : (fac k : ℕ) → KeepsClocks (IsCarrying fac k) (GivesUpOn fac k)
-frame_clocks fac k r dif node x t t' unspoilt h d = clocks_at (IsCarrying fac k) r dif node x t t' h d (λ low. record {
-  told = λ num port is cep f. keeps_frees fac k (wires_of t) port (Ok tt) (wires_of t') (gives_up fac k r dif node x t t' num port unspoilt d low is cep f) h f;
-  failed = λ port f. not_freed fac k (wires_of t) port (wires_of t') h f;
+frame_clocks fac k r dif node x t t' unspoilt h d = clocks_at (IsCarrying fac k) (frame_keeps fac k) r dif node x t t' h d (λ low. record {
+  told = λ asked num port asks held is cep f. keeps_frees fac k asked port (Ok tt) (wires_of t') (gives_up fac k r dif node x t t' asked num port unspoilt d low asks is cep f) held f;
+  failed = λ asked port held f. not_freed fac k asked port (wires_of t') held f;
 })
 
 pub frame_acts : (fac k : ℕ) (plan : Plan) (line : ℕ) (event : Event) (s : Stage) (ns : List Note) (s' : Stage) → (Touches plan fac k s.run event → ⊥) → (d : Acts plan line event s ns s') → (SomeOfWord (GivesUpOn fac k) plan line event s ns s' d → ⊥) → Holds (IsCarrying fac k) s.run.tower → Holds (IsCarrying fac k) s'.run.tower

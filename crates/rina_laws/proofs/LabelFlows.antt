@@ -65,6 +65,7 @@ pub record IsFlow (ask : Ask) (port : Port) (fs fs' : List Fac) : Type 0 where
   pub far : End
   pub its : port ≡ asker.port
   pub app : asker.app ≡ ask.app
+  pub far_app : far.app ≡ ask.to
   pub asker_new : (asker.sent ≡ []) × (asker.got ≡ []) × (asker.taken ≡ 0)
   pub far_new : (far.sent ≡ []) × (far.got ≡ []) × (far.taken ≡ 0)
   pub grown : IsGrown fs ask.fac asker far fs'
@@ -78,6 +79,7 @@ flow_at a ask port (Some l) h s ports free is = record {
   far = far_end (flow_on l a.now ask.node) (port_on l ask.fac (other_node l ask.node)) ask 0;
   its = is;
   app = refl;
+  far_app = refl;
   asker_new = (refl, refl, refl);
   far_new = (refl, refl, refl);
   grown = record {
@@ -108,7 +110,7 @@ refuses_all : (o : Option Fac) (ask : Ask) → refused_in o ask (Some allocate.U
 refuses_all None ask h = none-some allocate.NoMember (sym h)
 refuses_all (Some f) ask h = by_member (is_member f.members ask.node) (offered f.cubes ask.want) h
 
-flow_here : (ask : Ask) (port : Port) (u u' : Tower) → IsTower u → AllocatesAtTop ask (Ok port) u u' → DoesHere (IsFlow ask port) u u'
+pub flow_here : (ask : Ask) (port : Port) (u u' : Tower) → IsTower u → AllocatesAtTop ask (Ok port) u u' → DoesHere (IsFlow ask port) u u'
 flow_here ask port (Wires a) (Wires a') v w = record { below = tt; done = flow_of a ask port a' v w }
 flow_here ask port (Rank' p difs below) (Rank' p' difs' below') v w = absurd (elim w.0 [
   | inl h ↦
@@ -142,7 +144,7 @@ record IsAppFlow (ask : Ask) (port : Port) (fs fs' : List Fac) : Type 0 where
   flow : IsFlow ask port fs fs'
   plain : is_ipc ask.app ≡ false
 
-ports_after : (g g' : Shown) (r : ℕ) (fs' : List Fac) → AllPorts g → g' r ≡ Some fs' → HavePorts fs' → ((k : ℕ) → k ≢ r → Both (λ xs ys. ys ≡ xs) (g k) (g' k)) → AllPorts g'
+pub ports_after : (g g' : Shown) (r : ℕ) (fs' : List Fac) → AllPorts g → g' r ≡ Some fs' → HavePorts fs' → ((k : ℕ) → k ≢ r → Both (λ xs ys. ys ≡ xs) (g k) (g' k)) → AllPorts g'
 ports_after g g' r fs' ports is own others = record { of = λ k ys h. by_rank k ys h (number_tells k r) }
   where
     by_rank : (k : ℕ) (ys : List Fac) → g' k ≡ Some ys → (k ≡ r) ⊎ (k ≢ r) → HavePorts ys
@@ -195,7 +197,7 @@ refused_on a ask (allocate.Busy port) a' g = ap seen_of_wires g.air
 refused_on a ask (allocate.CountSpent n k) a' g = ap seen_of_wires g.air
 refused_on a ask allocate.Unbuilt a' g = ap seen_of_wires g.air
 
-rests_ask : (ask : Ask) (e : AllocateError) (u u' : Tower) → AllocatesAtTop ask (Err e) u u' → RestsHere u u'
+pub rests_ask : (ask : Ask) (e : AllocateError) (u u' : Tower) → AllocatesAtTop ask (Err e) u u' → RestsHere u u'
 rests_ask ask e (Wires a) (Wires a') w = record { below = tt; rests = rest_same (facs_of (Wires a)) (facs_of (Wires a')) (ap (λ (z : Seen). z.facs) (refused_on a ask e a' w)) }
 rests_ask ask e (Rank' p difs below) (Rank' p' difs' below') w = record {
   below = w.1;

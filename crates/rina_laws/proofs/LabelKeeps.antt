@@ -15,35 +15,42 @@ use Rattle.rina_notes.specs.Sites.{label_in, port_in}
 use Rattle.rina_laws.proofs.LabelCalls.{AllRest}
 use Rattle.rina_laws.proofs.LabelGiven.{found_of}
 use Rattle.rina_laws.proofs.LabelMoves.{IsView, MovesIn, at_other, at_same, none, rest_moves}
-use Rattle.rina_laws.proofs.LabelRanks.{AllPorts, shown, both_as}
+use Rattle.rina_laws.proofs.LabelRanks.{AllPorts, AtAll, Shown, both_as, shown}
 use Rattle.rina_laws.proofs.LabelRests.{Rest}
 use Rattle.rina_laws.proofs.LabelSends.{at_spot}
 use Rattle.rina_laws.proofs.LabelTells.{AllFit, AllMoves, AreNamed, AreSame, Is, Tells, fit_moves, named_moves, named_same, ports_move, tells_moves, tells_same, tells_same_labels}
 
+-- what is kept of what all ranks show
+pub record KeepsShown {X : Type 0} (V : End → List X) (told : List ℕ → List X) (g : Shown) (ls : List Label) : Type 0 where
+  pub ports : AllPorts g
+  pub fits : AllFit g
+  pub named : AreNamed g ls
+  pub tells : Tells V told g ls
+
 -- what is kept
-pub record Keeps {X : Type 0} (V : End → List X) (told : List ℕ → List X) (t : Tower) (ls : List Label) : Type 0 where
-  pub ports : AllPorts (shown t)
-  pub fits : AllFit (shown t)
-  pub named : AreNamed (shown t) ls
-  pub tells : Tells V told (shown t) ls
+abbrev pub Keeps : {X : Type 0} → (End → List X) → (List ℕ → List X) → Tower → List Label → Type 0
+Keeps V told t ls = KeepsShown V told (shown t) ls
 
 pub keeps_same : {X : Type 0} (V : End → List X) (told told' : List ℕ → List X) (t : Tower) (ls : List Label) → ((name : List ℕ) → told' name ≡ told name) → Keeps V told t ls → Keeps V told' t ls
 keeps_same V told told' t ls same k = record { ports = k.ports; fits = k.fits; named = k.named; tells = tells_same V told told' (shown t) ls same k.tells }
 
 -- ---- where the ends of applications rest
 
-rest_all : {X : Type 0} (V : End → List X) (t t' : Tower) → IsView V → AllRest t t' → AllMoves V (λ r. none) (shown t) (shown t')
-rest_all V t t' v a = record { rank = λ r. both_as Rest (MovesIn V none) (shown t r) (shown t' r) (λ fs fs' x. rest_moves V fs fs' v x) (a.rank r) }
+rest_all : {X : Type 0} (V : End → List X) (g g' : Shown) → IsView V → AtAll (λ r. Rest) g g' → AllMoves V (λ r. none) g g'
+rest_all V g g' v a = record { rank = λ r. both_as Rest (MovesIn V none) (g r) (g' r) (λ fs fs' x. rest_moves V fs fs' v x) (a.rank r) }
+
+pub shown_rest : {X : Type 0} (V : End → List X) (told : List ℕ → List X) (g g' : Shown) (ls : List Label) → IsView V → AtAll (λ r. Rest) g g' → KeepsShown V told g ls → KeepsShown V told g' ls
+shown_rest V told g g' ls v a k =
+    let mv = rest_all V g g' v a in
+    record {
+      ports = ports_move V (λ r. none) g g' mv k.ports;
+      fits = fit_moves V (λ r. none) g g' mv k.fits;
+      named = named_moves V (λ r. none) g g' ls mv k.named;
+      tells = tells_same V (λ name. told name ++ []) told g' ls (λ name. sym (append-nil (told name))) (tells_moves V (λ r. none) told (λ name. []) g g' ls mv k.fits k.tells (λ j l is. refl) (λ r p bare. refl) (λ name unknown. refl));
+    }
 
 pub keeps_rest : {X : Type 0} (V : End → List X) (told : List ℕ → List X) (t t' : Tower) (ls : List Label) → IsView V → AllRest t t' → Keeps V told t ls → Keeps V told t' ls
-keeps_rest V told t t' ls v a k =
-    let mv = rest_all V t t' v a in
-    record {
-      ports = ports_move V (λ r. none) (shown t) (shown t') mv k.ports;
-      fits = fit_moves V (λ r. none) (shown t) (shown t') mv k.fits;
-      named = named_moves V (λ r. none) (shown t) (shown t') ls mv k.named;
-      tells = tells_same V (λ name. told name ++ []) told (shown t') ls (λ name. sym (append-nil (told name))) (tells_moves V (λ r. none) told (λ name. []) (shown t) (shown t') ls mv k.fits k.tells (λ j l is. refl) (λ r p bare. refl) (λ name unknown. refl));
-    }
+keeps_rest V told t t' ls v a k = shown_rest V told (shown t) (shown t') ls v a k
 
 -- the same, and the labels are the same
 pub keeps_on : {X : Type 0} (V : End → List X) (told : List ℕ → List X) (t t' : Tower) (ls ls' : List Label) → IsView V → AllRest t t' → ls' ≡ ls → Keeps V told t ls → Keeps V told t' ls'

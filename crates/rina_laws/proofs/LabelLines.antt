@@ -14,12 +14,13 @@ use Rattle.rina_schedule.specs.declared.error.LineError.{LineError}
 use Rattle.rina_schedule.specs.declared.event.Event.{Event}
 use Rattle.rina_schedule.specs.declared.event.Event.TheVariants as events
 use Rattle.rina_stack.specs.declared.plan.Plan.{Plan}
+use Rattle.rina_stack.specs.Names.{place_in}
 use Rattle.rina_tower.specs.Ranks.{now_of}
 use Rattle.rina_tower.specs.Stands.{IsTower}
 use Rattle.rina_notes.specs.declared.facility.RankedFac.{RankedFac}
 use Rattle.rina_notes.specs.declared.site.Site.{Site}
 use Rattle.rina_words.specs.declared.run.Run.{Run}
-use Rattle.rina_words.specs.Built.{event_at}
+use Rattle.rina_schedule.specs.Line.{line_at}
 use Rattle.rina_notes.specs.Look.{ends_at, noted, state_notes}
 use Rattle.rina_run.specs.Run.{LineDoes, Runs}
 use Rattle.rina_notes.specs.Sites.{dif_site_at, fac_named, port_in, site_at}
@@ -28,7 +29,7 @@ use Rattle.rina_laws.specs.Labels.{event_by}
 use Rattle.rina_laws.proofs.LabelKeeps.{keeps_looked, keeps_same}
 use Rattle.rina_laws.proofs.LabelNotes.{IsDumb, IsQuiet, IsTelling, after, after_quiet, quiet_as, quiet_dumb, quiet_journal, quiet_ledger, quiet_rib, quiet_states}
 use Rattle.rina_laws.proofs.LabelReads.{read_at, send_at, ticking_keep}
-use Rattle.rina_laws.proofs.LabelWords.{Holds, holds_same, keeps_accept, keeps_allocate, keeps_cdap, keeps_clock, keeps_cut, keeps_free, keeps_hold, keeps_in, keeps_lose, keeps_member, keeps_mend, keeps_once, keeps_out, keeps_publish, keeps_register, keeps_repeat, keeps_rounds, keeps_state, keeps_unregister}
+use Rattle.rina_laws.proofs.LabelWords.{Holds, holds_same, keeps_accept, keeps_allocate, keeps_cdap, keeps_clock, keeps_cut, keeps_enrol, keeps_free, keeps_hold, keeps_in, keeps_lose, keeps_member, keeps_mend, keeps_once, keeps_out, keeps_publish, keeps_register, keeps_repeat, keeps_rounds, keeps_state, keeps_unregister}
 
 -- a word that is none of these tells nothing
 quiet_says : {X : Type 0} (V : End → List X) (by : List ℕ → Note → List X) (told : List ℕ → List X) (number : ℕ) (says : Option Answer) (ns : List Note) (w : Run) → IsDumb by number → ns ≡ noted number (now_of w.tower) says → Holds V told w → Holds V (after by told ns) w
@@ -69,6 +70,9 @@ words_keep lines V by sent got told plan number (events.Cdap dif node bytes) w n
 words_keep lines V by sent got told plan number (events.Rib dif node path) w ns w' t is v a k = rib_keep V by told number path (dif_site_at plan dif node) w ns w' (t.others number (events.Rib dif node path) is tt) a k
 words_keep lines V by sent got told plan number (events.Publish dif node fac) w ns w' t is v a k =
     quiet_says V by told number a.says ns w' (t.others number (events.Publish dif node fac) is tt) a.notes (keeps_publish V told (λ (site : Site). number_below site.rank (fac_named plan fac)) w (dif_site_at plan dif node) a.says w' t.view v a.does k)
+words_keep lines V by sent got told plan number (events.Enrol dif node fac peer) w ns w' t is v a k =
+    let kept = keeps_enrol V told fac node (λ (site : Site). number_below site.rank (fac_named plan fac)) (place_in plan.nodes peer) w (dif_site_at plan dif node) a.says w' t.view v a.does k in
+    quiet_says V by told number a.says ns w' (t.others number (events.Enrol dif node fac peer) is tt) a.notes kept
 words_keep lines V by sent got told plan number (events.Member dif node) w ns w' t is v a k = quiet_says V by told number a.says ns w' (t.others number (events.Member dif node) is tt) a.notes (keeps_member V told w (dif_site_at plan dif node) a.says w' a.does k)
 words_keep lines V by sent got told plan number event w ns w' t is v a k = absurd a.does
 
@@ -99,7 +103,7 @@ pub record Stays {X : Type 0} (V : End → List X) (told : List ℕ → List X) 
   pub holds : Holds V told s.run
 
 line_stays : {X : Type 0} (lines : List (List ℕ)) (V : End → List X) (by : List ℕ → Note → List X) (sent got : Entry → List X) (told : List ℕ → List X) (plan : Plan) (number : ℕ) (line : List ℕ) (read : Result (Option Event) LineError) (s : Stage) (ns : List Note) (s' : Stage)
-    → IsTelling lines V by sent got → slice_get lines (number - 1) ≡ Some line → event_at line ≡ read → LineDoes plan number read s ns s' → Stays V told s → Stays V (after by told ns) s'
+    → IsTelling lines V by sent got → slice_get lines (number - 1) ≡ Some line → line_at line ≡ read → LineDoes plan number read s ns s' → Stays V told s → Stays V (after by told ns) s'
 line_stays lines V by sent got told plan number line (Ok None) s ns s' t stands is d k =
     subst (Stays V (after by told ns)) (sym d.1) (record { stands = k.stands; holds = after_quiet V by told ns s.run.tower s.run.labels (λ name. ap (flat_map (by name)) d.0) k.holds })
 line_stays lines V by sent got told plan number line (Ok (Some event)) s ns s' t stands is d k = record { stands = d.stands; holds = steps_keep lines V by sent got told plan number event s ns s' t (rw (stands, is) refl) k.stands d k.holds }
@@ -117,7 +121,7 @@ runs_keep lines V by sent got told plan number done [] s ns s' t all at r k =
 runs_keep lines V by sent got told plan number done (l ∷ ls) s ns s' t all at (mid, first, rest, does, others, is) k =
     let place : number - 1 ≡ length done = omega (arith, at) in
     let stands : slice_get lines (number - 1) ≡ Some l = rw (all, place) (middle done ls l) in
-    let one = line_stays lines V by sent got told plan number l (event_at l) s first mid t stands refl does k in
+    let one = line_stays lines V by sent got told plan number l (line_at l) s first mid t stands refl does k in
     let all' : lines ≡ (done ++ l ∷ []) ++ ls = all ∙ sym (append_assoc done (l ∷ []) ls) in
     let at' : number + 1 ≡ length (done ++ l ∷ []) + 1 = omega (arith, at, length-append done (l ∷ [])) in
     let rest' = runs_keep lines V by sent got (after by told first) plan (number + 1) (done ++ l ∷ []) ls mid rest s' t all' at' others one in

@@ -22,7 +22,7 @@ new_bare V told g g' r n asker far ls k m i e ports w t x high new j l is rank s
     let past = new_past n (length w.grown.facility.ends) asker far m i e new in
     omega (arith, places, lt, past)
 
-grown_named : {X : Type 0} (V : End → List X) (told : List ℕ → List X) (g g' : Shown) (r n : ℕ) (asker far : End) (ls : List Label) → AllPorts g' → GrownAt g r n asker far g' → Tells V told g ls → AreNamed g ls → AreNamed g' ls
+pub grown_named : {X : Type 0} (V : End → List X) (told : List ℕ → List X) (g g' : Shown) (r n : ℕ) (asker far : End) (ls : List Label) → AllPorts g' → GrownAt g r n asker far g' → Tells V told g ls → AreNamed g ls → AreNamed g' ls
 grown_named V told g g' r n asker far ls ports w t a = record {
   names = a.names;
   ports = a.ports;
@@ -45,7 +45,7 @@ grown_named V told g g' r n asker far ls ports w t a = record {
   ];
 }
 
-grown_tells : {X : Type 0} (V : End → List X) (told : List ℕ → List X) (g g' : Shown) (r n : ℕ) (asker far : End) (ls : List Label) → GrownAt g r n asker far g' → V asker ≡ [] → V far ≡ [] → Tells V told g ls → Tells V told g' ls
+pub grown_tells : {X : Type 0} (V : End → List X) (told : List ℕ → List X) (g g' : Shown) (r n : ℕ) (asker far : End) (ls : List Label) → GrownAt g r n asker far g' → V asker ≡ [] → V far ≡ [] → Tells V told g ls → Tells V told g' ls
 grown_tells V told g g' r n asker far ls w va vf t = record {
   stands = λ k l is. (let h = t.stands k l is in record { place = h.place; end = h.end; holds = grown_on g g' r n asker far l.rank l.port.fac h.place h.end w h.holds; its = h.its; plain = h.plain; view = h.view });
   fresh = λ k m i e h no. elim (grown_from g g' r n asker far k m i e w h) [

@@ -10,7 +10,7 @@ use Rattle.rina_iface.specs.Seen.{Fac, with_end}
 use Rattle.rina_iface.proofs.Changed.{set_at}
 use Rattle.rina_tower.specs.Bystanders.{IsIpc, is_ipc}
 use Rattle.rina_laws.proofs.LabelEnds.{HavePorts, port_tells, same_port}
-use Rattle.rina_laws.proofs.LabelRests.{Each, IsStill, Rest, RestFac, Rests, each_set}
+use Rattle.rina_laws.proofs.LabelRests.{Each, IsStill, Rest, RestFac, Rests, StillWait, each_set, wait_same}
 
 -- no more was passed than came, where the application is no IPC process
 abbrev pub Fits : End → Type 0
@@ -31,11 +31,11 @@ pub record IsOn {X : Type 0} (V : End → List X) (more : Port → List X) (e e'
 abbrev pub none : {X : Type 0} → Port → List X
 none port = []
 
--- the view of each end of a facility has more behind it, and the same far ends wait
+-- the view of each end of a facility has more behind it, and no far end more waits
 pub record FacMoves {X : Type 0} (V : End → List X) (more : Port → List X) (f f' : Fac) : Type 0 where
   pub size : length f'.ends ≡ length f.ends
   pub each : (i : ℕ) (e e' : End) → At f.ends i e → At f'.ends i e' → IsOn V more e e'
-  pub waiting : f'.waiting ≡ f.waiting
+  pub waiting : StillWait f.waiting f'.waiting
 
 abbrev pub MovesIn : {X : Type 0} → (End → List X) → (Port → List X) → List Fac → List Fac → Type 0
 MovesIn V more fs fs' = Each (FacMoves V more) fs fs'
@@ -103,12 +103,12 @@ moves_end V fs port f i e e' xs ports h at its same app goes =
             let off : a.port ≢ port = λ is. o.0 ((ports.of port.fac f h).apart k i a e x at (is ∙ sym its)) in
             subst (IsOn V (at_port port xs) a) (sym one) (stays_off V port xs a off)
       ];
-      waiting = refl;
+      waiting = wait_same f.waiting f.waiting refl;
     }) (λ m g ne x. record {
       size = refl;
       each = λ k a b y z.
           let one : b ≡ a = same_Some b a (sym z ∙ y) in
           let off : a.port ≢ port = λ is. ne (sym ((ports.of m g x).own k a y) ∙ ap (λ (q : Port). q.fac) is) in
           subst (IsOn V (at_port port xs) a) (sym one) (stays_off V port xs a off);
-      waiting = refl;
+      waiting = wait_same g.waiting g.waiting refl;
     })

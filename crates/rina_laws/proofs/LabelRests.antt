@@ -1,5 +1,5 @@
 -- What sends and passes nothing at the ends of a rank: it lets them rest.
-use Rattle.std.proofs.Common.{arith, ◌≡◌, ◌≢◌, ℕ, List, [], ◌++◌, append_assoc, get_or, length, length-set, slice_get, slice_set, Some, refl, sym, ◌∙◌, ap, subst, inl, inr, ◌⊎◌}
+use Rattle.std.proofs.Common.{arith, ◌≡◌, ◌≢◌, ℕ, zero, suc, List, [], ◌∷◌, ◌++◌, append_assoc, get_or, length, length-set, remove, slice_get, slice_set, Some, refl, sym, ◌∙◌, ap, subst, inl, inr, ◌⊎◌}
 use Rattle.std.proofs.lemmas.List.{append-nil}
 use Rattle.std.proofs.lemmas.Option.{same_Some, slice_get-get_or, slice_get_within}
 use Rattle.rina_law.specs.declared.entry.Entry.{Entry}
@@ -79,13 +79,59 @@ ends_on xs ys zs p q = record {
       rests_on e (get_or ys i e) e' (p.each i e (get_or ys i e) x y) (q.each i (get_or ys i e) e' y z);
 }
 
--- the ends of a facility rest, and the same far ends wait
+-- ---- the far ends that wait
+
+-- each that waits waited before, at a place of its own
+pub record StillWait (old new : List ℕ) : Type 0 where
+  pub before : ℕ → ℕ
+  pub was : (k place : ℕ) → slice_get new k ≡ Some place → slice_get old (before k) ≡ Some place
+  pub apart : (j k : ℕ) → before j ≡ before k → j ≡ k
+
+pub wait_same : (old new : List ℕ) → new ≡ old → StillWait old new
+wait_same old new is = record { before = λ k. k; was = λ k place h. subst (λ (xs : List ℕ). slice_get xs k ≡ Some place) is h; apart = λ j k same. same }
+
+wait_on : (xs ys zs : List ℕ) → StillWait xs ys → StillWait ys zs → StillWait xs zs
+wait_on xs ys zs p q = record {
+  before = λ k. p.before (q.before k);
+  was = λ k place h. p.was (q.before k) place (q.was k place h);
+  apart = λ j k same. q.apart j k (p.apart (q.before j) (q.before k) same);
+}
+
+-- the place before one was taken from among them
+abbrev past : ℕ → ℕ → ℕ
+past zero k = suc k
+past (suc at) zero = zero
+past (suc at) (suc k) = suc (past at k)
+
+past_apart : (at j k : ℕ) → past at j ≡ past at k → j ≡ k
+past_apart zero j k same = omega (arith, same)
+past_apart (suc at) zero zero same = refl
+past_apart (suc at) zero (suc k) same = absurd (omega (arith, same))
+past_apart (suc at) (suc j) zero same = absurd (omega (arith, same))
+past_apart (suc at) (suc j) (suc k) same = ap suc (past_apart at j k (omega (arith, same)))
+
+was_past : (xs : List ℕ) (at k x : ℕ) → slice_get (remove xs at) k ≡ Some x → slice_get xs (past at k) ≡ Some x
+was_past [] zero k x h = cc
+was_past [] (suc at) k x h = cc
+was_past (z ∷ xs) zero k x h = h
+was_past (z ∷ xs) (suc at) zero x h = h
+was_past (z ∷ xs) (suc at) (suc k) x h = was_past xs at k x h
+
+pub wait_less : (xs : List ℕ) (at : ℕ) → StillWait xs (remove xs at)
+wait_less xs at = record { before = past at; was = was_past xs at; apart = past_apart at }
+
+-- ---- a facility
+
+-- the ends of a facility rest, and no far end more waits
 pub record RestFac (f f' : Fac) : Type 0 where
   pub ends : RestEnds f.ends f'.ends
-  pub waiting : f'.waiting ≡ f.waiting
+  pub waiting : StillWait f.waiting f'.waiting
 
 pub fac_same : (f f' : Fac) → f'.ends ≡ f.ends → f'.waiting ≡ f.waiting → RestFac f f'
-fac_same f f' ends waiting = record { ends = ends_same f.ends f'.ends ends; waiting = waiting }
+fac_same f f' ends waiting = record { ends = ends_same f.ends f'.ends ends; waiting = wait_same f.waiting f'.waiting waiting }
+
+fac_on : (f g h : Fac) → RestFac f g → RestFac g h → RestFac f h
+fac_on f g h p q = record { ends = ends_on f.ends g.ends h.ends p.ends q.ends; waiting = wait_on f.waiting g.waiting h.waiting p.waiting q.waiting }
 
 -- ---- the facilities of a rank
 
@@ -117,6 +163,12 @@ each_set R fs n f f' h here others = record {
 -- the ends of a rank rest
 abbrev pub Rest : List Fac → List Fac → Type 0
 Rest fs fs' = Each RestFac fs fs'
+
+pub rest_on : (fs gs hs : List Fac) → Rest fs gs → Rest gs hs → Rest fs hs
+rest_on fs gs hs p q = record {
+  on = λ n f at. (let a = p.on n f at in let b = q.on n a.0 a.1 in (b.0, b.1, fac_on f a.0 b.0 a.2 b.2));
+  from = λ n h at. (let b = q.from n h at in let a = p.from n b.0 b.1 in (a.0, a.1, fac_on a.0 b.0 h a.2 b.2));
+}
 
 pub rest_same : (fs fs' : List Fac) → fs' ≡ fs → Rest fs fs'
 rest_same fs fs' is = each_same RestFac fs fs' is (λ n f h. fac_same f f refl refl)

@@ -1,5 +1,5 @@
 -- What the steps of DIFs, and rounds of them, do to the ends of all ranks: those of applications rest.
-use Rattle.std.proofs.Common.{◌≡◌, ◌∙◌, ℕ, ◌+◌, List, [], ◌∷◌, map, slice_get, Some, option_map, Result, Ok, refl, sym, ap, subst, inl, inr}
+use Rattle.std.proofs.Common.{◌≡◌, ◌∙◌, ℕ, ◌+◌, List, [], ◌∷◌, map, remove, slice_get, Some, option_map, Result, Ok, refl, sym, ap, subst, inl, inr}
 use Rattle.std.proofs.lemmas.List.{map-set}
 use Rattle.std.proofs.lemmas.Option.{same_Some, slice_get-map}
 use Rattle.rina_policy.specs.declared.policy.Head.{Head}
@@ -14,19 +14,19 @@ use Rattle.rina_dif.specs.declared.dif.Dif.{Dif}
 use Rattle.rina_dif.specs.Shown.{seen_of as seen_of_dif}
 use Rattle.rina_iface.specs.declared.ends.End.{End}
 use Rattle.rina_iface.specs.Journal.{At}
-use Rattle.rina_iface.specs.Seen.{Seen, with_end}
+use Rattle.rina_iface.specs.Seen.{Fac, Seen, with_end}
 use Rattle.rina_tower.specs.declared.tower.Tower.{Tower, Rank', Wires}
 use Rattle.rina_tower.specs.Cdap.{AsksAt, AsksAtTop}
 use Rattle.rina_tower.specs.StepEffect.{StandsAfter}
 use Rattle.rina_tower.specs.Ranks.{fac_of_dif, height_of, rank_of, seen_of}
 use Rattle.rina_tower.specs.Rounds.{AllMove, Anything, IsRound, Move, Moves, InMove, ClockMove, OutMove}
 use Rattle.rina_tower.specs.Steps.{ClocksAt, ClocksAtTop, InSteps, InStepsAtTop, OutSteps, OutStepsAtTop}
-use Rattle.rina_tower.specs.LowerUse.{MayUse}
+use Rattle.rina_tower.specs.LowerUse.{MayClaim, MayUse, UsesOne}
 use Rattle.rina_tower.specs.Levels.{AtDif, AtRank}
 use Rattle.rina_tower.proofs.Asked.{asked_facs}
 use Rattle.rina_laws.proofs.LabelCalls.{AllRest, frees, rest_idle}
 use Rattle.rina_laws.proofs.LabelRanks.{DoesAll, IsAlone, alone_refl, at_rank, at_rank_more, at_top, facs_of, is_alone, level}
-use Rattle.rina_laws.proofs.LabelRests.{Rest, RestFac, Rests, ends_set, rest_same, rest_set, rests_still}
+use Rattle.rina_laws.proofs.LabelRests.{Rest, RestFac, Rests, ends_same, ends_set, rest_on, rest_same, rest_set, rests_still, wait_less, wait_same}
 
 -- ---- one DIF
 
@@ -40,14 +40,25 @@ later_rests d d' s i e e' x y =
     rests_still e e' port app same.0 same.1 l.2.got.more (ap (λ (z : End). z.got) (sym one) ∙ l.2.got.is)
 
 dif_rests : (below below' : Seen) (d d' : Dif) → StandsAfter below below' d d' → RestFac (fac_of_dif d) (fac_of_dif d')
-dif_rests below below' d d' k = record { ends = record { size = k.silent.number; each = later_rests d d' k.silent }; waiting = k.waiting }
+dif_rests below below' d d' k = record { ends = record { size = k.silent.number; each = later_rests d d' k.silent }; waiting = wait_same (fac_of_dif d).waiting (fac_of_dif d').waiting k.waiting }
+
+one_rests : (s s' : Seen) → UsesOne s s' → Rest s.facs s'.facs
+one_rests s s' (inl is) = rest_same s.facs s'.facs (ap (λ (x : Seen). x.facs) is)
+one_rests s s' (inr (inr u)) = frees u.both s u.port (Ok tt) s' u.freed
+one_rests s s' (inr (inl u)) =
+    let rests : Rests u.end u.end' = record { port = u.its_port; app = u.its_app; rests = inl u.ipc } in
+    subst (Rest s.facs) (sym (ap (λ (x : Seen). x.facs) u.new_is)) (rest_set s.facs u.port.fac u.facility (with_end u.facility u.place u.end') u.stands.facility (record { ends = ends_set u.facility.ends u.place u.end u.end' u.stands.is rests; waiting = wait_same u.facility.waiting u.facility.waiting refl }))
+
+-- a far end that is claimed waits no more
+claim_rests : (s s' : Seen) → MayClaim s s' → Rest s.facs s'.facs
+claim_rests s s' (inl is) = rest_same s.facs s'.facs (ap (λ (x : Seen). x.facs) is)
+claim_rests s s' (inr c) =
+    let k = c.claimed in
+    let f : Fac = record k.facility { waiting = remove k.facility.waiting k.at } in
+    subst (Rest s.facs) (sym (ap (λ (x : Seen). x.facs) k.new_is)) (rest_set s.facs c.fac k.facility f k.stands (record { ends = ends_same k.facility.ends k.facility.ends refl; waiting = wait_less k.facility.waiting k.at }))
 
 uses_rest : (s s' : Seen) → MayUse s s' → Rest s.facs s'.facs
-uses_rest s s' (inl is) = rest_same s.facs s'.facs (ap (λ (x : Seen). x.facs) is)
-uses_rest s s' (inr (inr u)) = frees u.both s u.port (Ok tt) s' u.freed
-uses_rest s s' (inr (inl u)) =
-    let rests : Rests u.end u.end' = record { port = u.its_port; app = u.its_app; rests = inl u.ipc } in
-    subst (Rest s.facs) (sym (ap (λ (x : Seen). x.facs) u.new_is)) (rest_set s.facs u.port.fac u.facility (with_end u.facility u.place u.end') u.stands.facility (record { ends = ends_set u.facility.ends u.place u.end u.end' u.stands.is rests; waiting = refl }))
+uses_rest s s' u = rest_on s.facs u.mid.facs s'.facs (claim_rests s u.mid u.claims) (one_rests u.mid s' u.uses)
 
 -- ---- at the own rank, over the rank below
 

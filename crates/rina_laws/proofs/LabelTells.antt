@@ -1,6 +1,6 @@
 -- What is kept from one line to the next: labels have names and ports of their own, and tell the journals of their ends.
 use Rattle.std.proofs.Common.{◌≡◌, ◌≢◌, ℕ, false, List, [], ◌++◌, slice_get, Some, sym, ◌∙◌, ap, subst}
-use Rattle.std.proofs.lemmas.Option.{slice_get-get_or, slice_get_within}
+use Rattle.std.proofs.lemmas.Option.{same_Some, slice_get-get_or, slice_get_within}
 use Rattle.std.proofs.Common.{get_or, arith}
 use Rattle.rina_base.specs.declared.number.Port.{Port}
 use Rattle.rina_iface.specs.declared.ends.End.{End}
@@ -81,11 +81,22 @@ moves_from V more g g' r n i e' mv h =
     let there : slice_get f.0.ends i ≡ Some (get_or f.0.ends i e') = slice_get-get_or f.0.ends i e' (omega (arith, size, slice_get_within h.holds.facility.ends i e' h.holds.is)) in
     (get_or f.0.ends i e', record { facs = b.0; is_rank = b.1; holds = record { facility = f.0; stands = f.1; is = there } }, f.2.each i (get_or f.0.ends i e') e' there h.holds.is)
 
-moves_wait : {X : Type 0} (V : End → List X) (more : ℕ → Port → List X) (g g' : Shown) (r n at place : ℕ) → AllMoves V more g g' → WaitsAt g' r n at place → WaitsAt g r n at place
+moves_wait : {X : Type 0} (V : End → List X) (more : ℕ → Port → List X) (g g' : Shown) (r n at place : ℕ) → AllMoves V more g g' → WaitsAt g' r n at place → (before : ℕ) × WaitsAt g r n before place
 moves_wait V more g g' r n at place mv w =
     let b = both_from (MovesIn V (more r)) (g r) (g' r) w.facs (mv.rank r) w.is_rank in
     let f = b.2.from n w.waits.facility w.waits.stands in
-    record { facs = b.0; is_rank = b.1; waits = record { facility = f.0; stands = f.1; is = subst (λ (xs : List ℕ). slice_get xs at ≡ Some place) f.2.waiting w.waits.is } }
+    (f.2.waiting.before at, record { facs = b.0; is_rank = b.1; waits = record { facility = f.0; stands = f.1; is = f.2.waiting.was at place w.waits.is } })
+
+-- where none waited twice, none does
+moves_once : {X : Type 0} (V : End → List X) (more : ℕ → Port → List X) (g g' : Shown) (r n j k place : ℕ) → AllMoves V more g g' → ((i m : ℕ) → WaitsAt g r n i place → WaitsAt g r n m place → i ≡ m) → WaitsAt g' r n j place → WaitsAt g' r n k place → j ≡ k
+moves_once V more g g' r n j k place mv once v w =
+    let facs : w.facs ≡ v.facs = same_Some w.facs v.facs (sym w.is_rank ∙ v.is_rank) in
+    let fac : w.waits.facility ≡ v.waits.facility = same_Some w.waits.facility v.waits.facility (sym w.waits.stands ∙ ap (λ (fs : List Fac). slice_get fs n) facs ∙ v.waits.stands) in
+    let b = both_from (MovesIn V (more r)) (g r) (g' r) v.facs (mv.rank r) v.is_rank in
+    let f = b.2.from n v.waits.facility v.waits.stands in
+    let there : slice_get v.waits.facility.waiting k ≡ Some place = ap (λ (z : Fac). slice_get z.waiting k) (sym fac) ∙ w.waits.is in
+    let before : (i : ℕ) → slice_get v.waits.facility.waiting i ≡ Some place → WaitsAt g r n (f.2.waiting.before i) place = λ i is. record { facs = b.0; is_rank = b.1; waits = record { facility = f.0; stands = f.1; is = f.2.waiting.was i place is } } in
+    f.2.waiting.apart j k (once (f.2.waiting.before j) (f.2.waiting.before k) (before j v.waits.is) (before k there))
 
 pub fit_moves : {X : Type 0} (V : End → List X) (more : ℕ → Port → List X) (g g' : Shown) → AllMoves V more g g' → AllFit g → AllFit g'
 fit_moves V more g g' mv fits = record { of = λ r n i e h. (let b = moves_from V more g g' r n i e mv h in (b.2.goes (fits.of r n i b.0 b.1)).0) }
@@ -115,8 +126,9 @@ named_moves V more g g' ls mv a = record {
   ports = a.ports;
   waits = λ r n at place e w h.
       let b = moves_from V more g g' r n place e mv h in
-      λ j l is rank same. a.waits r n at place b.0 (moves_wait V more g g' r n at place mv w) b.1 j l is rank (same ∙ b.2.port);
-  once = λ r n j k place v w. a.once r n j k place (moves_wait V more g g' r n j place mv v) (moves_wait V more g g' r n k place mv w);
+      let was = moves_wait V more g g' r n at place mv w in
+      λ j l is rank same. a.waits r n was.0 place b.0 was.1 b.1 j l is rank (same ∙ b.2.port);
+  once = λ r n j k place v w. moves_once V more g g' r n j k place mv (λ i m x y. a.once r n i m place x y) v w;
 }
 
 pub tells_moves : {X : Type 0} (V : End → List X) (more : ℕ → Port → List X) (told new : List ℕ → List X) (g g' : Shown) (ls : List Label) → AllMoves V more g g' → AllFit g → Tells V told g ls

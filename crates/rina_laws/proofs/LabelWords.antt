@@ -22,10 +22,11 @@ use Rattle.rina_notes.specs.declared.label.Label.{Label}
 use Rattle.rina_notes.specs.declared.site.Site.{Site}
 use Rattle.rina_words.specs.declared.run.Run.{Run}
 use Rattle.rina_notes.specs.Sites.{label_in}
-use Rattle.rina_words.specs.Step.{AtLower, AtPort, AtSite, AtWire, CallsAllocate, CallsCdap, CallsClock, CallsFree, CallsIn, CallsIncoming, CallsPublish, CallsRegister, CallsUnregister, CallsWire, LettingOut, RoundsBy, RoundsOnce, Stage, TellsMember, TellsState, TicksOnce, Unlabelled, asked, label_of, link_of}
+use Rattle.rina_words.specs.Step.{AtField, AtPort, AtSite, AtWire, CallsAllocate, CallsCdap, CallsClock, CallsEnrol, CallsFree, CallsIn, CallsIncoming, CallsPublish, CallsRegister, CallsUnregister, CallsWire, LettingOut, RoundsBy, RoundsOnce, Stage, TellsMember, TellsState, TicksOnce, Unlabelled, asked, label_of, link_of}
 use Rattle.rina_laws.proofs.LabelCalls.{AllRest, app_frees, app_registers, app_unregisters, publishes}
 use Rattle.rina_laws.proofs.LabelClaimed.{fit_taken, named_claimed, ports_taken, tells_claimed}
 use Rattle.rina_laws.proofs.LabelClaims.{app_claims, app_claims_none}
+use Rattle.rina_laws.proofs.LabelEnrols.{enrol_keeps}
 use Rattle.rina_laws.proofs.LabelFlows.{app_allocates, app_ask_refused}
 use Rattle.rina_laws.proofs.LabelGiven.{unknown_of}
 use Rattle.rina_laws.proofs.LabelKeeps.{Keeps, keeps_looked, keeps_on, keeps_rest}
@@ -43,7 +44,7 @@ Holds V told w = Keeps V told w.tower w.labels
 pub holds_same : {X : Type 0} (V : End → List X) (told : List ℕ → List X) (w w' : Run) → w' ≡ w → Holds V told w → Holds V told w'
 holds_same V told w w' is k = subst (λ (x : Run). Holds V told x) (sym is) k
 
--- ---- register, unregister, publish, member, free and state
+-- ---- register, unregister, publish, enrol, member, free and state
 
 pub keeps_register : {X : Type 0} (V : End → List X) (told : List ℕ → List X) (app : List ℕ) (w : Run) (found : Result Site ℕ) (says : Option Answer) (w' : Run) → IsView V → IsTower w.tower → AtSite found (CallsRegister app w) w says w' → Holds V told w → Holds V told w'
 keeps_register V told app w (Err field) says w' view v c k = holds_same V told w w' c.run k
@@ -53,13 +54,26 @@ pub keeps_unregister : {X : Type 0} (V : End → List X) (told : List ℕ → Li
 keeps_unregister V told app w (Err field) says w' view v c k = holds_same V told w w' c.run k
 keeps_unregister V told app w (Ok site) says w' view v c k = keeps_on V told w.tower w'.tower w.labels w'.labels view (app_unregisters site.rank site.fac site.node app c.result w.tower w'.tower v c.does) c.labels k
 
-keeps_lower : {X : Type 0} (V : End → List X) (told : List ℕ → List X) (w : Run) (site : Site) (lower : Option ℕ) (says : Option Answer) (w' : Run) → IsView V → IsTower w.tower → AtLower 3 lower (CallsPublish w site) w says w' → Holds V told w → Holds V told w'
+keeps_lower : {X : Type 0} (V : End → List X) (told : List ℕ → List X) (w : Run) (site : Site) (lower : Option ℕ) (says : Option Answer) (w' : Run) → IsView V → IsTower w.tower → AtField 3 lower (CallsPublish w site) w says w' → Holds V told w → Holds V told w'
 keeps_lower V told w site None says w' view v c k = holds_same V told w w' c.run k
 keeps_lower V told w site (Some n) says w' view v c k = keeps_on V told w.tower w'.tower w.labels w'.labels view (publishes site.rank site.fac site.node n c.result w.tower w'.tower v c.does) c.labels k
 
-pub keeps_publish : {X : Type 0} (V : End → List X) (told : List ℕ → List X) (lower : Site → Option ℕ) (w : Run) (found : Result Site ℕ) (says : Option Answer) (w' : Run) → IsView V → IsTower w.tower → AtSite found (λ site. AtLower 3 (lower site) (CallsPublish w site) w) w says w' → Holds V told w → Holds V told w'
+pub keeps_publish : {X : Type 0} (V : End → List X) (told : List ℕ → List X) (lower : Site → Option ℕ) (w : Run) (found : Result Site ℕ) (says : Option Answer) (w' : Run) → IsView V → IsTower w.tower → AtSite found (λ site. AtField 3 (lower site) (CallsPublish w site) w) w says w' → Holds V told w → Holds V told w'
 keeps_publish V told lower w (Err field) says w' view v c k = holds_same V told w w' c.run k
 keeps_publish V told lower w (Ok site) says w' view v c k = keeps_lower V told w site (lower site) says w' view v c k
+
+keeps_peer : {X : Type 0} (V : End → List X) (told : List ℕ → List X) (fac_name node_name : List ℕ) (w : Run) (site : Site) (n : ℕ) (peer : Option ℕ) (says : Option Answer) (w' : Run) → IsView V → IsTower w.tower → AtField 4 peer (CallsEnrol fac_name node_name w site n) w says w' → Holds V told w → Holds V told w'
+keeps_peer V told fac_name node_name w site n None says w' view v c k = holds_same V told w w' c.run k
+keeps_peer V told fac_name node_name w site n (Some m) says w' view v c k = subst (Keeps V told w'.tower) (sym c.labels) (enrol_keeps V told site.rank site.fac site.node n m c.result w.tower w'.tower w.labels view v c.does k)
+
+keeps_under : {X : Type 0} (V : End → List X) (told : List ℕ → List X) (fac_name node_name : List ℕ) (w : Run) (site : Site) (lower peer : Option ℕ) (says : Option Answer) (w' : Run) → IsView V → IsTower w.tower → AtField 3 lower (λ n. AtField 4 peer (CallsEnrol fac_name node_name w site n) w) w says w' → Holds V told w → Holds V told w'
+keeps_under V told fac_name node_name w site None peer says w' view v c k = holds_same V told w w' c.run k
+keeps_under V told fac_name node_name w site (Some n) peer says w' view v c k = keeps_peer V told fac_name node_name w site n peer says w' view v c k
+
+pub keeps_enrol : {X : Type 0} (V : End → List X) (told : List ℕ → List X) (fac_name node_name : List ℕ) (lower : Site → Option ℕ) (peer : Option ℕ) (w : Run) (found : Result Site ℕ) (says : Option Answer) (w' : Run) → IsView V → IsTower w.tower
+    → AtSite found (λ site. AtField 3 (lower site) (λ n. AtField 4 peer (CallsEnrol fac_name node_name w site n) w) w) w says w' → Holds V told w → Holds V told w'
+keeps_enrol V told fac_name node_name lower peer w (Err field) says w' view v c k = holds_same V told w w' c.run k
+keeps_enrol V told fac_name node_name lower peer w (Ok site) says w' view v c k = keeps_under V told fac_name node_name w site (lower site) peer says w' view v c k
 
 pub keeps_member : {X : Type 0} (V : End → List X) (told : List ℕ → List X) (w : Run) (found : Result Site ℕ) (says : Option Answer) (w' : Run) → AtSite found (TellsMember w) w says w' → Holds V told w → Holds V told w'
 keeps_member V told w (Err field) says w' c k = holds_same V told w w' c.run k

@@ -1,3 +1,4 @@
+pub mod Enrolled
 pub mod PlannedAt
 pub mod PlannedWords
 pub mod PlannedRun
@@ -15,6 +16,7 @@ pub mod LabelCalls
 pub mod LabelClaimed
 pub mod LabelClaims
 pub mod LabelEnds
+pub mod LabelEnrols
 pub mod LabelFlows
 pub mod LabelGiven
 pub mod LabelGrown
@@ -34,6 +36,7 @@ pub mod LabelStart
 pub mod LabelTells
 pub mod LabelTicks
 pub mod LabelWords
+pub mod WiresAsked
 pub mod WiresAt
 pub mod WiresOf
 pub mod WiresWords
@@ -48,6 +51,8 @@ pub mod WiresLaid
 pub mod WiresRun
 pub mod Published
 pub mod WrittenCalls
+pub mod WrittenClaims
+pub mod WrittenEnrols
 pub mod UserObjects
 pub mod WrittenGoes
 pub mod WrittenGrows

@@ -20,6 +20,7 @@ use Rattle.rina_table.specs.declared.sketch.Rounds.TheVariants.{Auto, Manual}
 use Rattle.rina_stack.specs.declared.plan.Plan.{Plan}
 use Rattle.rina_dif.specs.declared.cdap.CdapCallError.{CdapCallError}
 use Rattle.rina_dif.specs.declared.dif.Dif.{Dif}
+use Rattle.rina_dif.specs.declared.enrol.EnrolError.{EnrolError}
 use Rattle.rina_wire.specs.declared.tick.TickError.{TickError}
 use Rattle.rina_wire.specs.Air.{Air}
 use Rattle.rina_tower.specs.declared.applications.AppError.{AppError}
@@ -28,6 +29,7 @@ use Rattle.rina_tower.specs.declared.tower.Tower.{Tower, Wires, Rank'}
 use Rattle.rina_tower.specs.Applications.{Answers, ClaimsFor}
 use Rattle.rina_tower.specs.Cdap.{AsksAtTop, AsksOne}
 use Rattle.rina_tower.specs.Calls.{AllocatesAtTop, ClaimsAtTop, FreesAtTop, PassesAtTop, RegistersAtTop, SendsAtTop, UnregistersAtTop}
+use Rattle.rina_tower.specs.Enrolling.{EnrolsAtTop}
 use Rattle.rina_tower.specs.StepEffect.{StandsAfter}
 use Rattle.rina_tower.specs.PlanSettings.{AreOfPlan, IsAsPlanned}
 use Rattle.rina_tower.specs.Ranks.{height_of}
@@ -167,6 +169,12 @@ outs plan may slots slots' dif node link r (Wires a) (Wires a') d = (refl, λ h.
 outs plan may slots slots' dif node link r (Rank' p difs below) (Rank' p' difs' below') d = keeps_rank plan p p' difs difs' below below' (any_stays _ _ _ difs difs' (λ x x' s. after_stays _ _ x x' s.after) d.0) (keeps_below plan below below' d.1)
 outs plan may slots slots' dif node link r (Wires a) (Rank' p difs below) d = absurd d
 outs plan may slots slots' dif node link r (Rank' p difs below) (Wires a) d = absurd d
+
+pub enrols : (plan : Plan) (dif node fac peer : ℕ) (r : Result (Unit {0}) EnrolError) (t t' : Tower) → EnrolsAtTop dif node fac peer r t t' → Keeps plan t t'
+enrols plan dif node fac peer r (Wires a) (Wires a') d = (refl, λ h. tt)
+enrols plan dif node fac peer r (Rank' p difs below) (Rank' p' difs' below') d = keeps_rank plan p p' difs difs' below below' (any_stays _ _ _ difs difs' (λ x x' s. record { settings = s.settings; laid = s.laid }) d.0) (keeps_below plan below below' d.1)
+enrols plan dif node fac peer r (Wires a) (Rank' p difs below) d = absurd d
+enrols plan dif node fac peer r (Rank' p difs below) (Wires a) d = absurd d
 
 asks_stays : (node : ℕ) (bytes : List ℕ) (r : Result (List ℕ) CdapCallError) (d d' : Dif) → AsksOne node bytes r d d' → IsStaying d d'
 asks_stays node bytes r d d' s = record { settings = ap (λ (x : Dif). x.settings) s.keeps.is; laid = ap (λ (x : Dif). x.laid) s.keeps.is }

@@ -1,7 +1,6 @@
 -- The DIFs of a whole run are as they were planned.
 use Rattle.std.proofs.Common.{ℕ, ◌+◌, List, [], ◌∷◌, Some, None, Option, Result, Ok, Err, sym, ap, subst}
 use Rattle.rina_iface.specs.Seen.{Seen}
-use Rattle.rina_plan.specs.declared.dif.LinkPlan.{LinkPlan}
 use Rattle.rina_report.specs.declared.note.Note.{Note}
 use Rattle.rina_schedule.specs.declared.error.LineError.{LineError}
 use Rattle.rina_schedule.specs.declared.event.Event.{Event}
@@ -15,7 +14,7 @@ use Rattle.rina_tower.specs.declared.tower.Tower.{Tower, Wires, Rank'}
 use Rattle.rina_tower.specs.PlanSettings.{IsAsPlanned, IsOfPlan}
 use Rattle.rina_tower.specs.Ranks.{height_of, seen_of}
 use Rattle.rina_tower.specs.Stands.{IsTower}
-use Rattle.rina_words.specs.Built.{event_at}
+use Rattle.rina_schedule.specs.Line.{line_at}
 use Rattle.rina_run.specs.Run.{LineDoes, Runs}
 use Rattle.rina_words.specs.Step.{Stage, rounds_after}
 use Rattle.rina_laws.specs.Planned.{AreRoutedAs, IsRoutedAs, RoutesAsPlanned, StaysAsPlanned}
@@ -29,7 +28,7 @@ line_does plan number (Err e) s ns s' d = absurd d
 
 runs : (plan : Plan) (number : ℕ) (s : Stage) (ls : List (List ℕ)) (ns : List Note) (s' : Stage) → Runs plan number s ls ns s' → Keeps plan s.run.tower s'.run.tower
 runs plan number s [] ns s' d = keeps_same plan s.run.tower s'.run.tower (ap (λ (v : Stage). v.run.tower) d.1)
-runs plan number s (l ∷ ls) ns s' (mid, first, rest, does, others, is) = keeps_on plan s.run.tower mid.run.tower s'.run.tower (line_does plan number (event_at l) s first mid does) (runs plan (number + 1) mid ls rest s' others)
+runs plan number s (l ∷ ls) ns s' (mid, first, rest, does, others, is) = keeps_on plan s.run.tower mid.run.tower s'.run.tower (line_does plan number (line_at l) s first mid does) (runs plan (number + 1) mid ls rest s' others)
 
 pub stays_as_planned : StaysAsPlanned
 stays_as_planned plan shelf start lines ns s o d = (runs plan 1 start lines ns s d).1 o.planned
@@ -43,7 +42,7 @@ line_stands plan number (Err e) s ns s' v d = absurd d
 
 run_stands : (plan : Plan) (number : ℕ) (s : Stage) (ls : List (List ℕ)) (ns : List Note) (s' : Stage) → IsTower s.run.tower → Runs plan number s ls ns s' → IsTower s'.run.tower
 run_stands plan number s [] ns s' v d = subst (λ (x : Stage). IsTower x.run.tower) (sym d.1) v
-run_stands plan number s (l ∷ ls) ns s' v (mid, first, rest, does, others, is) = run_stands plan (number + 1) mid ls rest s' (line_stands plan number (event_at l) s first mid v does) others
+run_stands plan number s (l ∷ ls) ns s' v (mid, first, rest, does, others, is) = run_stands plan (number + 1) mid ls rest s' (line_stands plan number (line_at l) s first mid v does) others
 
 dif_routed : (plan : Plan) (rank : ℕ) (d : Dif) (below : Seen) → Stands d below → IsOfPlan plan rank d → IsRoutedAs plan rank d
 dif_routed plan rank d below st h = record {

@@ -4,16 +4,19 @@ use Rattle.rina_base.specs.declared.number.Port.{Port}
 use Rattle.rina_cube.specs.declared.Want.{Want}
 use Rattle.rina_data.specs.declared.step.StepError.TheVariants.{NoIpc}
 use Rattle.rina_dif.specs.declared.cdap.CdapCallError.TheVariants.{NoIpc as NoneThere}
+use Rattle.rina_dif.specs.declared.enrol.EnrolError.TheVariants.{NoIpc as NoMember}
 use Rattle.rina_report.specs.declared.note.Note.{Note}
 use Rattle.rina_report.specs.declared.answer.Answer.{Answer}
 use Rattle.rina_schedule.specs.declared.event.Event.{Event}
 use Rattle.rina_schedule.specs.declared.event.Event.TheVariants as events
 use Rattle.rina_stack.specs.declared.plan.Plan.{Plan}
+use Rattle.rina_stack.specs.Names.{place_in}
 use Rattle.rina_tower.specs.declared.tower.Tower.{Tower}
 use Rattle.rina_tower.specs.Applications.{is_ipc_at}
 use Rattle.rina_tower.specs.Cdap.{AsksAtTop}
 use Rattle.rina_tower.specs.Bystanders.{is_ipc}
 use Rattle.rina_tower.specs.Calls.{AllocatesAtTop, ClaimsAtTop, FreesAtTop, RegistersAtTop, SendsAtTop, UnregistersAtTop}
+use Rattle.rina_tower.specs.Enrolling.{EnrolsAtTop}
 use Rattle.rina_tower.specs.Events.{Cuts, HoldsBack, Loses, Mends, Repeats}
 use Rattle.rina_tower.specs.Ranks.{now_of, seen_of}
 use Rattle.rina_tower.specs.Rounds.{Anything}
@@ -26,7 +29,7 @@ use Rattle.rina_notes.specs.declared.label.Label.{Label}
 use Rattle.rina_notes.specs.declared.site.Site.{Site}
 use Rattle.rina_words.specs.declared.run.Run.{Run}
 use Rattle.rina_notes.specs.Sites.{dif_site_at, fac_named, label_in, port_in, site_at}
-use Rattle.rina_words.specs.Step.{Accounting, Acts, ActsOnRun, AtLower, AtPort, AtSite, AtWire, CallsAllocate, CallsCdap, CallsClock, CallsFree, CallsIn, CallsIncoming, CallsPublish, CallsRegister, CallsSend, CallsUnregister, CallsWire, LettingOut, Reading, Showing, ShowingRib, Stage, TellsMember, TellsState, Ticking, Ticks, Unlabelled, asked, link_of, number_below, wire_of}
+use Rattle.rina_words.specs.Step.{Accounting, Acts, ActsOnRun, AtField, AtPort, AtSite, AtWire, CallsAllocate, CallsCdap, CallsClock, CallsEnrol, CallsFree, CallsIn, CallsIncoming, CallsPublish, CallsRegister, CallsSend, CallsUnregister, CallsWire, LettingOut, Reading, Showing, ShowingRib, Stage, TellsMember, TellsState, Ticking, Ticks, Unlabelled, asked, link_of, number_below, wire_of}
 use Rattle.rina_laws.proofs.Published.{MayRegister, published}
 use Rattle.rina_laws.proofs.PlannedAt as at
 use Rattle.rina_laws.proofs.PlannedAt.{Keeps, keeps_on, keeps_same}
@@ -56,9 +59,9 @@ at_wire : (plan : Plan) (o : Option ℕ) (Does : ℕ → Result (Unit {0}) WireE
 at_wire plan None Does w says w' next d = same plan w w' d.run
 at_wire plan (Some n) Does w says w' next d = next n d.result d.does
 
-at_lower : (plan : Plan) (o : Option ℕ) (Call : ℕ → Option Answer → Run → Type 0) (w : Run) (says : Option Answer) (w' : Run) → ((n : ℕ) → Call n says w' → KeepsIn plan w w') → AtLower 3 o Call w says w' → KeepsIn plan w w'
-at_lower plan None Call w says w' next d = same plan w w' d.run
-at_lower plan (Some n) Call w says w' next d = next n d
+at_field : (plan : Plan) (field : ℕ) (o : Option ℕ) (Call : ℕ → Option Answer → Run → Type 0) (w : Run) (says : Option Answer) (w' : Run) → ((n : ℕ) → Call n says w' → KeepsIn plan w w') → AtField field o Call w says w' → KeepsIn plan w w'
+at_field plan field None Call w says w' next d = same plan w w' d.run
+at_field plan field (Some n) Call w says w' next d = next n d
 
 -- ---- calls of applications
 
@@ -129,6 +132,9 @@ publishes plan w site fac says w' c =
     let k = published site.rank site.fac site.node fac c.result w.tower w'.tower c.does in
     at.at_rank plan k.rank (MayRegister fac site.node) ⊥ w.tower w'.tower (may_register plan fac site.node) k.done
 
+enrols : (plan : Plan) (fac_name node_name : List ℕ) (w : Run) (site : Site) (fac peer : ℕ) (says : Option Answer) (w' : Run) → CallsEnrol fac_name node_name w site fac peer says w' → KeepsIn plan w w'
+enrols plan fac_name node_name w site fac peer says w' c = at.at_rank plan site.rank (EnrolsAtTop site.fac site.node fac peer c.result) (c.result ≡ Err NoMember) w.tower w'.tower (at.enrols plan site.fac site.node fac peer c.result) c.does
+
 letting : (plan : Plan) (r : Result Site ℕ) (link : ℕ) (s : Stage) (says : Option Answer) (s' : Stage) → LettingOut plan r link s says s' → KeepsIn plan s.run s'.run
 letting plan (Err field) link s says s' d = same plan s.run s'.run (ap (λ (v : Stage). v.run) d.1)
 letting plan (Ok site) link s says s' d = at.at_rank plan site.rank (OutStepsAtTop Anything s.shelf s'.shelf site.fac site.node (link_of link) d.result) ((d.result ≡ Err NoIpc) × (s'.shelf ≡ s.shelf)) s.run.tower s'.run.tower (at.outs plan Anything s.shelf s'.shelf site.fac site.node (link_of link) d.result) d.does
@@ -160,8 +166,13 @@ words plan line (events.Ledger dif node) w ns w' d = accounting plan line (dif_s
 words plan line (events.Cdap dif node bytes) w ns w' d = at_site plan (dif_site_at plan dif node) (CallsCdap bytes w) w d.says w' (λ site c. asking plan bytes w site d.says w' c) d.does
 words plan line (events.Rib dif node path) w ns w' d = showing_rib plan line path (dif_site_at plan dif node) w ns w' d
 words plan line (events.Publish dif node fac) w ns w' d =
-    at_site plan (dif_site_at plan dif node) (λ site. AtLower 3 (number_below site.rank (fac_named plan fac)) (CallsPublish w site) w) w d.says w' (λ site u.
-    at_lower plan (number_below site.rank (fac_named plan fac)) (CallsPublish w site) w d.says w' (λ n c. publishes plan w site n d.says w' c) u) d.does
+    at_site plan (dif_site_at plan dif node) (λ site. AtField 3 (number_below site.rank (fac_named plan fac)) (CallsPublish w site) w) w d.says w' (λ site u.
+    at_field plan 3 (number_below site.rank (fac_named plan fac)) (CallsPublish w site) w d.says w' (λ n c. publishes plan w site n d.says w' c) u) d.does
+words plan line (events.Enrol dif node fac peer) w ns w' d =
+    let Call : Site → ℕ → ℕ → Option Answer → Run → Type 0 = CallsEnrol fac node w in
+    at_site plan (dif_site_at plan dif node) (λ site. AtField 3 (number_below site.rank (fac_named plan fac)) (λ n. AtField 4 (place_in plan.nodes peer) (Call site n) w) w) w d.says w' (λ site u.
+    at_field plan 3 (number_below site.rank (fac_named plan fac)) (λ n. AtField 4 (place_in plan.nodes peer) (Call site n) w) w d.says w' (λ n v.
+    at_field plan 4 (place_in plan.nodes peer) (Call site n) w d.says w' (λ m c. enrols plan fac node w site n m d.says w' c) v) u) d.does
 words plan line (events.Member dif node) w ns w' d = at_site plan (dif_site_at plan dif node) (TellsMember w) w d.says w' (λ site c. same plan w w' c.run) d.does
 words plan line event w ns w' d = absurd d.does
 

@@ -29,12 +29,12 @@ use Rattle.rina_tower.specs.declared.applications.AppError.{AppError}
 use Rattle.rina_tower.specs.declared.applications.AppError.TheVariants.{NoRank, NotYours, Call}
 use Rattle.rina_tower.specs.declared.tower.Tower.{Tower, Wires, Rank'}
 use Rattle.rina_tower.specs.Applications.{Answers, AppPasses, ClaimsFor, is_ipc_at}
-use Rattle.rina_dif.specs.Lower.{FreesBelow}
-use Rattle.rina_tower.specs.Calls.{FreesWhole, PassesAtTop, SendsWhole}
+use Rattle.rina_dif.specs.Lower.{ClocksBelow, FreesAs, FreesNone, HasClaimed, ThenDoes}
+use Rattle.rina_tower.specs.Calls.{ClaimsAtTop, FreesWhole, PassesAtTop, SendsWhole}
 use Rattle.rina_tower.specs.Ranks.{height_of, rank_of, seen_of}
 use Rattle.rina_tower.specs.Refusals.{frees_both, refuses_send}
 use Rattle.rina_tower.specs.Rounds.{AllMove, Anything, IsRound, Move, Moves, InMove, ClockMove, OutMove}
-use Rattle.rina_tower.specs.Steps.{ClocksAt, ClocksAtTop, InStepsAtTop, OutStepsAtTop}
+use Rattle.rina_tower.specs.Steps.{ClocksAt, ClocksAtTop, InStepsAtTop, OutStepsAtTop, claimant}
 use Rattle.rina_tower.specs.ClockTick.{Ticks}
 use Rattle.rina_tower.specs.Levels.{AtRank, AtWires}
 use Rattle.rina_wire.specs.Air.{Air, seen_of as seen_of_wires}
@@ -52,9 +52,10 @@ use Rattle.rina_iface.specs.declared.error.AllocateError.{AllocateError}
 use Rattle.rina_iface.specs.declared.error.RegisterError.{RegisterError}
 use Rattle.rina_iface.specs.declared.error.UnregisterError.{UnregisterError}
 use Rattle.rina_words.specs.Step.{Passes, RoundsBy, for_app, waiting}
-use Rattle.rina_laws.specs.Frames.{wires_of}
+use Rattle.rina_laws.specs.Frames.{AreAsked, wires_of}
 use Rattle.rina_laws.specs.SomeStep.{SomeAfter, SomeMove, SomeOfRound}
 use Rattle.rina_laws.proofs.LabelRanks.{own_rank, rank_below}
+use Rattle.rina_laws.proofs.WiresAsked.{asked_in_turn, asked_keep}
 
 -- the calls on wires that keep this of them: all but the events that touch a frame, and the end of a flow
 pub record Keeps (P : Air → Type 0) : Type 0 where
@@ -163,47 +164,68 @@ freed_wires P a a' port r h d next = elim a.failed as (λ b. a.failed ≡ b → 
   | false ↦ λ is. next (d.1.0 is)
 ] refl
 
--- what a step by the clock does to the wires below: where it tells that a management connection gave a number up, a port is freed; without memory
--- that may fail; else nothing is done
+-- what a step by the clock does to the wires below. They may be asked for a flow that came in, which keeps this of them. Behind that a port is freed where the
+-- step tells that a management connection gave a number up; without memory that may fail; else nothing is done
 pub record KeepsFree (P : Air → Type 0) (x : Result ClockStep StepError) (a a' : Air) : Type 0 where
-  pub told : (num : Num) (port : Port) → x ≡ Ok (clocks.GaveUp num) → num.cep ≡ 0 → FreesOn a port (Ok tt) a' → P a'
-  pub failed : (port : Port) → FreesOn a port (Err freeing.Memory) a' → P a'
+  pub told : (asked : Air) (num : Num) (port : Port) → AreAsked a asked → P asked → x ≡ Ok (clocks.GaveUp num) → num.cep ≡ 0 → FreesOn asked port (Ok tt) a' → P a'
+  pub failed : (asked : Air) (port : Port) → P asked → FreesOn asked port (Err freeing.Memory) a' → P a'
 
-clocked_wires : (P : Air → Type 0) (x : Result ClockStep StepError) (a a' : Air) → P a → FreesBelow (Wires a' ≡ Wires a) (FreesAsSeen seen_of frees_both FreesWhole (Wires a) (Wires a')) x → KeepsFree P x a a' → P a'
-clocked_wires P (Ok (clocks.GaveUp num)) a a' h (inl d) next = subst (Holds P) (sym d.1) h
-clocked_wires P (Ok (clocks.GaveUp num)) a a' h (inr d) next = freed_wires P a a' d.1 (Ok tt) h d.2 (next.told num d.1 refl d.0)
-clocked_wires P (Ok clocks.Idle) a a' h d next = subst (Holds P) (sym d) h
-clocked_wires P (Ok (clocks.Gone cep)) a a' h d next = subst (Holds P) (sym d) h
-clocked_wires P (Ok (clocks.Ack cep)) a a' h d next = subst (Holds P) (sym d) h
-clocked_wires P (Ok (clocks.Again num)) a a' h d next = subst (Holds P) (sym d) h
-clocked_wires P (Ok (clocks.LinkLost link)) a a' h d next = subst (Holds P) (sym d) h
-clocked_wires P (Ok (clocks.LinkNew link)) a a' h d next = subst (Holds P) (sym d) h
-clocked_wires P (Ok (clocks.Timeout port)) a a' h d next = subst (Holds P) (sym d) h
-clocked_wires P (Ok (clocks.Message link)) a a' h d next = subst (Holds P) (sym d) h
-clocked_wires P (Err Memory) a a' h (inl d) next = subst (Holds P) (sym d) h
-clocked_wires P (Err Memory) a a' h (inr d) next = freed_wires P a a' d.0 (Err freeing.Memory) h d.1 (next.failed d.0)
-clocked_wires P (Err NoIpc) a a' h d next = subst (Holds P) (sym d) h
-clocked_wires P (Err NoLink) a a' h d next = subst (Holds P) (sym d) h
-clocked_wires P (Err (CountSpent need left)) a a' h d next = subst (Holds P) (sym d) h
+module _ (P : Air → Type 0) (kept : Keeps P) (node : ℕ) (app : List ℕ) (a a' : Air) (h : P a) where
+  -- what is done behind the questions
+  behind : (Does : Tower → Type 0) → ThenDoes (λ t fac answer t'. ClaimsAtTop fac node app answer t t') (Wires a) (Wires a') Does → ((asked : Air) → AreAsked a asked → P asked → Does (Wires asked) → P a') → P a'
+  behind Does d next =
+      let k = asked_in_turn node app d.asked.0 a d.mid d.asked.1 in
+      next k.asked k.asks (asked_keep P kept.claims a k.asked k.asks h) (subst Does k.is d.does)
+
+  same_behind : ThenDoes (λ t fac answer t'. ClaimsAtTop fac node app answer t t') (Wires a) (Wires a') (λ mid. Wires a' ≡ mid) → P a'
+  same_behind d = behind (λ mid. Wires a' ≡ mid) d (λ asked asks held same. subst (Holds P) (sym same) held)
+
+  claimed_new : HasClaimed (λ t fac answer t'. ClaimsAtTop fac node app answer t t') (Wires a) (Wires a') → P a'
+  claimed_new d =
+      let k = asked_in_turn node app (Some d.0) a (Wires a') d.1 in
+      subst (Holds P) (sym k.is) (asked_keep P kept.claims a k.asked k.asks h)
+
+  gave_up : (num : Num) (asked : Air) → AreAsked a asked → P asked → FreesAs (Wires a' ≡ Wires asked) (FreesAsSeen seen_of frees_both FreesWhole (Wires asked) (Wires a')) (clocks.GaveUp num) → KeepsFree P (Ok (clocks.GaveUp num)) a a' → P a'
+  gave_up num asked asks held (inl d) next = subst (Holds P) (sym d.1) held
+  gave_up num asked asks held (inr d) next = freed_wires P asked a' d.1 (Ok tt) held d.2 (next.told asked num d.1 asks held refl d.0)
+
+  no_memory : (asked : Air) → P asked → FreesNone (Wires a' ≡ Wires asked) (FreesAsSeen seen_of frees_both FreesWhole (Wires asked) (Wires a')) → KeepsFree P (Err Memory) a a' → P a'
+  no_memory asked held (inl d) next = subst (Holds P) (sym d) held
+  no_memory asked held (inr d) next = freed_wires P asked a' d.0 (Err freeing.Memory) held d.1 (next.failed asked d.0 held)
+
+  clocked_wires : (x : Result ClockStep StepError) → ClocksBelow (λ t fac answer t'. ClaimsAtTop fac node app answer t t') (FreesAsSeen seen_of frees_both FreesWhole) (Wires a) x (Wires a') → KeepsFree P x a a' → P a'
+  clocked_wires (Ok (clocks.GaveUp num)) d next = behind (λ mid. FreesAs (Wires a' ≡ mid) (FreesAsSeen seen_of frees_both FreesWhole mid (Wires a')) (clocks.GaveUp num)) d (λ asked asks held done. gave_up num asked asks held done next)
+  clocked_wires (Ok clocks.Idle) d next = same_behind d
+  clocked_wires (Ok (clocks.Gone cep)) d next = same_behind d
+  clocked_wires (Ok (clocks.Ack cep)) d next = same_behind d
+  clocked_wires (Ok (clocks.Again num)) d next = same_behind d
+  clocked_wires (Ok (clocks.LinkLost link)) d next = subst (Holds P) (sym d) h
+  clocked_wires (Ok (clocks.LinkNew link)) d next = claimed_new d
+  clocked_wires (Ok (clocks.Timeout port)) d next = same_behind d
+  clocked_wires (Ok (clocks.Message link)) d next = same_behind d
+  clocked_wires (Err Memory) d next = behind (λ mid. FreesNone (Wires a' ≡ mid) (FreesAsSeen seen_of frees_both FreesWhole mid (Wires a'))) d (λ asked asks held done. no_memory asked held done next)
+  clocked_wires (Err NoIpc) d next = subst (Holds P) (sym d) h
+  clocked_wires (Err NoLink) d next = subst (Holds P) (sym d) h
+  clocked_wires (Err (CountSpent need left)) d next = subst (Holds P) (sym d) h
 
 -- at a rank right above the wires, which is rank 1; at another one nothing is done to the wires
-clocks_here : (P : Air → Type 0) (dif node : ℕ) (x : Result ClockStep StepError) (u u' : Tower) → Holds P u → ClocksAtTop dif node x u u' → (height_of u ≡ 1 → KeepsFree P x (wires_of u) (wires_of u')) → Holds P u'
-clocks_here P dif node x (Wires a) (Wires a') h d next = subst P (sym d.1) h
-clocks_here P dif node x (Rank' p difs (Wires a)) (Rank' p' difs' (Wires a')) h d next = clocked_wires P x a a' h d.2 (next refl)
-clocks_here P dif node x (Rank' p difs (Rank' q lower under)) (Rank' p' difs' (Rank' q' lower' under')) h d next = subst (Holds P) (sym d.1.1) h
-clocks_here P dif node x (Rank' p difs (Wires a)) (Rank' p' difs' (Rank' q' lower' under')) h d next = absurd d.1
-clocks_here P dif node x (Rank' p difs (Rank' q lower under)) (Rank' p' difs' (Wires a')) h d next = absurd d.1
-clocks_here P dif node x (Wires a) (Rank' p difs below) h d next = absurd d
-clocks_here P dif node x (Rank' p difs below) (Wires a) h d next = absurd d
+clocks_here : (P : Air → Type 0) (kept : Keeps P) (dif node : ℕ) (x : Result ClockStep StepError) (u u' : Tower) → Holds P u → ClocksAtTop dif node x u u' → (height_of u ≡ 1 → KeepsFree P x (wires_of u) (wires_of u')) → Holds P u'
+clocks_here P kept dif node x (Wires a) (Wires a') h d next = subst P (sym d.1) h
+clocks_here P kept dif node x (Rank' p difs (Wires a)) (Rank' p' difs' (Wires a')) h d next = clocked_wires P kept node (claimant difs dif node) a a' h x d.2 (next refl)
+clocks_here P kept dif node x (Rank' p difs (Rank' q lower under)) (Rank' p' difs' (Rank' q' lower' under')) h d next = subst (Holds P) (sym d.1.1) h
+clocks_here P kept dif node x (Rank' p difs (Wires a)) (Rank' p' difs' (Rank' q' lower' under')) h d next = absurd d.1
+clocks_here P kept dif node x (Rank' p difs (Rank' q lower under)) (Rank' p' difs' (Wires a')) h d next = absurd d.1
+clocks_here P kept dif node x (Wires a) (Rank' p difs below) h d next = absurd d
+clocks_here P kept dif node x (Rank' p difs below) (Wires a) h d next = absurd d
 
 -- what a step by the clock at some rank keeps of the wires, where freeing a port there keeps it
-pub clocks_at : (P : Air → Type 0) (r dif node : ℕ) (x : Result ClockStep StepError) (t t' : Tower) → Holds P t → ClocksAt r dif node x t t' → (r ≡ 1 → KeepsFree P x (wires_of t) (wires_of t')) → Holds P t'
-clocks_at P r dif node x (Wires a) (Wires a') h (inl d) next = subst P (sym d.1.1) h
-clocks_at P r dif node x (Wires a) (Wires a') h (inr d) next = subst P (sym d.2) h
-clocks_at P r dif node x (Rank' p difs below) (Rank' p' difs' below') h (inl d) next = clocks_here P dif node x (Rank' p difs below) (Rank' p' difs' below') h d.1 (λ tall. next (d.0 ∙ tall))
-clocks_at P r dif node x (Rank' p difs below) (Rank' p' difs' below') h (inr d) next = clocks_at P r dif node x below below' h d.2 next
-clocks_at P r dif node x (Wires a) (Rank' p difs below) h d next = absurd d
-clocks_at P r dif node x (Rank' p difs below) (Wires a) h d next = absurd d
+pub clocks_at : (P : Air → Type 0) (kept : Keeps P) (r dif node : ℕ) (x : Result ClockStep StepError) (t t' : Tower) → Holds P t → ClocksAt r dif node x t t' → (r ≡ 1 → KeepsFree P x (wires_of t) (wires_of t')) → Holds P t'
+clocks_at P kept r dif node x (Wires a) (Wires a') h (inl d) next = subst P (sym d.1.1) h
+clocks_at P kept r dif node x (Wires a) (Wires a') h (inr d) next = subst P (sym d.2) h
+clocks_at P kept r dif node x (Rank' p difs below) (Rank' p' difs' below') h (inl d) next = clocks_here P kept dif node x (Rank' p difs below) (Rank' p' difs' below') h d.1 (λ tall. next (d.0 ∙ tall))
+clocks_at P kept r dif node x (Rank' p difs below) (Rank' p' difs' below') h (inr d) next = clocks_at P kept r dif node x below below' h d.2 next
+clocks_at P kept r dif node x (Wires a) (Rank' p difs below) h d next = absurd d
+clocks_at P kept r dif node x (Rank' p difs below) (Wires a) h d next = absurd d
 
 -- what such a step keeps, but for steps of which this holds
 abbrev pub KeepsClocks : (Air → Type 0) → (Tower → Tower → Type 0) → Type 0

@@ -18,16 +18,16 @@ use Rattle.rina_wire.specs.Free.{FreesOn}
 use Rattle.rina_words.specs.Step.{Acts, RoundsBy, Stage, Ticking, Ticks}
 use Rattle.rina_laws.specs.Frames.{wires_of}
 use Rattle.rina_laws.specs.SomeStep.{SomeAfter, SomeMove, SomeOfRound, SomeOfTicking, SomeOfTicks, SomeOfWord}
-use Rattle.rina_laws.proofs.WiresAt.{KeepsClocks, clocks_at}
+use Rattle.rina_laws.proofs.WiresAt.{Keeps, KeepsClocks, clocks_at}
 
 -- this holds of no step
 abbrev pub Never : Tower → Tower → Type 0
 Never t t' = ⊥
 
-pub free_clocks : (P : Air → Type 0) → ((a : Air) (port : Port) (r : Result (Unit {0}) FreeError) (a' : Air) → P a → FreesOn a port r a' → P a') → KeepsClocks P Never
-free_clocks P frees r dif node x t t' unspoilt h d = clocks_at P r dif node x t t' h d (λ low. record {
-  told = λ num port is cep f. frees (wires_of t) port (Ok tt) (wires_of t') h f;
-  failed = λ port f. frees (wires_of t) port (Err Memory) (wires_of t') h f;
+pub free_clocks : (P : Air → Type 0) → Keeps P → ((a : Air) (port : Port) (r : Result (Unit {0}) FreeError) (a' : Air) → P a → FreesOn a port r a' → P a') → KeepsClocks P Never
+free_clocks P kept frees r dif node x t t' unspoilt h d = clocks_at P kept r dif node x t t' h d (λ low. record {
+  told = λ asked num port asks held is cep f. frees asked port (Ok tt) (wires_of t') held f;
+  failed = λ asked port held f. frees asked port (Err Memory) (wires_of t') held f;
 })
 
 -- ---- nor of some step of a run

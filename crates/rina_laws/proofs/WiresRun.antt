@@ -12,7 +12,7 @@ use Rattle.rina_wire.specs.Cut.{cut_line}
 use Rattle.rina_wire.specs.Disturb.{held, lost, repeated}
 use Rattle.rina_wire.specs.Free.{freed_at}
 use Rattle.rina_notes.specs.Sites.{port_in}
-use Rattle.rina_words.specs.Built.{event_at}
+use Rattle.rina_schedule.specs.Line.{line_at}
 use Rattle.rina_words.specs.Step.{Acts, Stage, rounds_after, wire_of}
 use Rattle.rina_run.specs.Run.{LineDoes, Runs}
 use Rattle.rina_laws.specs.Frames.{wires_of}
@@ -42,7 +42,7 @@ line_keeps : (Q : ℕ → Line → Type 0) (calls : KeepsLine Q) (kept : KeepsEv
 line_keeps Q calls kept fac plan number (Ok None) s ns s' h d = subst (λ (v : Stage). Holds (HasWire Q fac) v.run.tower) (sym d.1) h
 line_keeps Q calls kept fac plan number (Ok (Some event)) s ns s' h d =
     let all = keeps_wire Q calls fac in
-    let clock = free_clocks (HasWire Q fac) (keeps_free Q kept.freed fac) in
+    let clock = free_clocks (HasWire Q fac) all (keeps_free Q kept.freed fac) in
     let acted = acts (HasWire Q fac) all Never clock plan number event s d.answer d.mid (special Q kept fac plan number event s d.answer d.mid h d.acts) d.acts (never_word plan number event s d.answer d.mid d.acts) h in
     let rounds = rounds_after plan.rounds event in
     rounds_by (HasWire Q fac) all Never clock rounds d.mid.shelf s'.shelf d.mid.run.tower s'.run.tower d.rounds (never_after rounds d.mid.shelf d.mid.run.tower s'.shelf s'.run.tower d.rounds) acted
@@ -51,4 +51,4 @@ line_keeps Q calls kept fac plan number (Err e) s ns s' h d = absurd d
 pub runs_keep : (Q : ℕ → Line → Type 0) (calls : KeepsLine Q) (kept : KeepsEvents Q) (fac : ℕ) (plan : Plan) (number : ℕ) (s : Stage) (ls : List (List ℕ)) (ns : List Note) (s' : Stage) → Runs plan number s ls ns s' → Holds (HasWire Q fac) s.run.tower → Holds (HasWire Q fac) s'.run.tower
 runs_keep Q calls kept fac plan number s [] ns s' d h = subst (λ (v : Stage). Holds (HasWire Q fac) v.run.tower) (sym d.1) h
 runs_keep Q calls kept fac plan number s (l ∷ ls) ns s' (mid, first, rest, does, others, is) h =
-    runs_keep Q calls kept fac plan (number + 1) mid ls rest s' others (line_keeps Q calls kept fac plan number (event_at l) s first mid h does)
+    runs_keep Q calls kept fac plan (number + 1) mid ls rest s' others (line_keeps Q calls kept fac plan number (line_at l) s first mid h does)

@@ -6,6 +6,8 @@ use Rattle.rina_data.specs.declared.step.StepError.TheVariants.{NoIpc}
 use Rattle.rina_base.specs.declared.number.Num.{Num}
 use Rattle.rina_dif.specs.declared.cdap.CdapCallError.{CdapCallError}
 use Rattle.rina_dif.specs.declared.cdap.CdapCallError.TheVariants.{NoIpc as NoneThere}
+use Rattle.rina_dif.specs.declared.enrol.EnrolError.{EnrolError}
+use Rattle.rina_dif.specs.declared.enrol.EnrolError.TheVariants.{NoIpc as NoMember}
 use Rattle.rina_iface.specs.declared.ask.Ask.{Ask}
 use Rattle.rina_iface.specs.declared.error.AllocateError.{AllocateError}
 use Rattle.rina_iface.specs.declared.error.FreeError.{FreeError}
@@ -18,11 +20,13 @@ use Rattle.rina_report.specs.declared.answer.Answer.TheVariants.{Done}
 use Rattle.rina_schedule.specs.declared.event.Event.{Event}
 use Rattle.rina_schedule.specs.declared.event.Event.TheVariants as events
 use Rattle.rina_stack.specs.declared.plan.Plan.{Plan}
+use Rattle.rina_stack.specs.Names.{place_in}
 use Rattle.rina_tower.specs.declared.tower.Tower.{Tower, Rank', Wires}
 use Rattle.rina_tower.specs.Applications.{is_ipc_at}
 use Rattle.rina_tower.specs.Cdap.{AsksAtTop}
 use Rattle.rina_tower.specs.Bystanders.{is_ipc}
 use Rattle.rina_tower.specs.Calls.{AllocatesAtTop, ClaimsAtTop, FreesAtTop, RegistersAtTop, SendsAtTop, UnregistersAtTop}
+use Rattle.rina_tower.specs.Enrolling.{EnrolsAtTop}
 use Rattle.rina_tower.specs.Events.{Cuts, HoldsBack, Loses, Mends, Repeats}
 use Rattle.rina_tower.specs.Levels.{AtWires}
 use Rattle.rina_tower.specs.Ranks.{now_of, seen_of}
@@ -39,9 +43,10 @@ use Rattle.rina_notes.specs.declared.site.Site.{Site}
 use Rattle.rina_words.specs.declared.run.Run.{Run}
 use Rattle.rina_notes.specs.Told.{answer_told, wire_told}
 use Rattle.rina_notes.specs.Sites.{dif_site_at, fac_named, label_in, port_in, site_at}
-use Rattle.rina_words.specs.Step.{Accounting, Acts, ActsOnRun, AtLower, AtPort, AtSite, AtWire, CallsAllocate, CallsCdap, CallsClock, CallsFree, CallsIn, CallsIncoming, CallsPublish, CallsRegister, CallsSend, CallsUnregister, CallsWire, LettingOut, Reading, Showing, ShowingRib, Stage, TellsMember, TellsState, Ticking, Ticks, Unlabelled, asked, link_of, number_below, wire_of}
+use Rattle.rina_words.specs.Step.{Accounting, Acts, ActsOnRun, AtField, AtPort, AtSite, AtWire, CallsAllocate, CallsCdap, CallsClock, CallsEnrol, CallsFree, CallsIn, CallsIncoming, CallsPublish, CallsRegister, CallsSend, CallsUnregister, CallsWire, LettingOut, Reading, Showing, ShowingRib, Stage, TellsMember, TellsState, Ticking, Ticks, Unlabelled, asked, link_of, number_below, wire_of}
 use Rattle.rina_laws.specs.Frames.{wires_of}
 use Rattle.rina_laws.specs.SomeStep.{SomeOfTicking, SomeOfTicks, SomeOfWord}
+use Rattle.rina_laws.proofs.Enrolled.{enrol_asks}
 use Rattle.rina_laws.proofs.Published.{MayRegister, published}
 use Rattle.rina_laws.proofs.WiresAt.{Holds, IsPart, Keeps, KeepsClocks, at_app, at_claim, at_rank, at_wires, ins_here, outs_here, passes, round, rounds_by, tick}
 
@@ -59,9 +64,9 @@ at_port : (P : Air → Type 0) (o : Option (ℕ × Port)) (Call : ℕ → Port �
 at_port P None Call w says w' h d next = subst (λ (v : Run). Holds P v.tower) (sym d.run) h
 at_port P (Some p) Call w says w' h d next = next p d
 
-at_lower : (P : Air → Type 0) (o : Option ℕ) (Call : ℕ → Option Answer → Run → Type 0) (w : Run) (says : Option Answer) (w' : Run) → Holds P w.tower → AtLower 3 o Call w says w' → ((n : ℕ) → Call n says w' → Holds P w'.tower) → Holds P w'.tower
-at_lower P None Call w says w' h d next = subst (λ (v : Run). Holds P v.tower) (sym d.run) h
-at_lower P (Some n) Call w says w' h d next = next n d
+at_field : (P : Air → Type 0) (field : ℕ) (o : Option ℕ) (Call : ℕ → Option Answer → Run → Type 0) (w : Run) (says : Option Answer) (w' : Run) → Holds P w.tower → AtField field o Call w says w' → ((n : ℕ) → Call n says w' → Holds P w'.tower) → Holds P w'.tower
+at_field P field None Call w says w' h d next = subst (λ (v : Run). Holds P v.tower) (sym d.run) h
+at_field P field (Some n) Call w says w' h d next = next n d
 
 -- ---- calls of applications: at wires, or at a rank of DIFs, where nothing is done below
 
@@ -208,6 +213,22 @@ publishes P kept w site n says w' h c =
     let k = published site.rank site.fac site.node n c.result w.tower w'.tower c.does in
     at_rank P k.rank (MayRegister n site.node) ⊥ w.tower w'.tower h k.done (λ u u' part g d. may_register P kept n site.node u u' g d)
 
+-- over wires a flow may be asked for; at a rank of DIFs over DIFs nothing is done below
+enrols_here : (P : Air → Type 0) (kept : Keeps P) (dif node n peer : ℕ) (x : Result (Unit {0}) EnrolError) (u u' : Tower) → Holds P u → EnrolsAtTop dif node n peer x u u' → Holds P u'
+enrols_here P kept dif node n peer x (Wires a) (Wires a') h d = subst P (sym d.1) h
+enrols_here P kept dif node n peer x (Rank' p difs (Wires a)) (Rank' p' difs' (Wires a')) h d = elim (enrol_asks dif node n peer x p p' difs difs' (Wires a) (Wires a') d) [
+  | inl same ↦ subst (Holds P) (sym same) h
+  | inr k ↦ kept.allocates a k.ask k.answer a' h k.does
+]
+enrols_here P kept dif node n peer x (Rank' p difs (Rank' q lower under)) (Rank' p' difs' (Rank' q' lower' under')) h d = subst (Holds P) (sym d.1.1) h
+enrols_here P kept dif node n peer x (Rank' p difs (Wires a)) (Rank' p' difs' (Rank' q' lower' under')) h d = absurd d.1
+enrols_here P kept dif node n peer x (Rank' p difs (Rank' q lower under)) (Rank' p' difs' (Wires a')) h d = absurd d.1
+enrols_here P kept dif node n peer x (Wires a) (Rank' p difs below) h d = absurd d
+enrols_here P kept dif node n peer x (Rank' p difs below) (Wires a) h d = absurd d
+
+enrols : (P : Air → Type 0) (kept : Keeps P) (fac_name node_name : List ℕ) (w : Run) (site : Site) (n peer : ℕ) (says : Option Answer) (w' : Run) → Holds P w.tower → CallsEnrol fac_name node_name w site n peer says w' → Holds P w'.tower
+enrols P kept fac_name node_name w site n peer says w' h c = at_rank P site.rank (EnrolsAtTop site.fac site.node n peer c.result) (c.result ≡ Err NoMember) w.tower w'.tower h c.does (λ u u' part g d. enrols_here P kept site.fac site.node n peer c.result u u' g d)
+
 letting : (P : Air → Type 0) (kept : Keeps P) (plan : Plan) (r : Result Site ℕ) (link : ℕ) (s : Stage) (says : Option Answer) (s' : Stage) → Holds P s.run.tower → LettingOut plan r link s says s' → Holds P s'.run.tower
 letting P kept plan (Err field) link s says s' h d = subst (λ (v : Stage). Holds P v.run.tower) (sym d.1) h
 letting P kept plan (Ok site) link s says s' h d = at_rank P site.rank (OutStepsAtTop Anything s.shelf s'.shelf site.fac site.node (link_of link) d.result) ((d.result ≡ Err NoIpc) × (s'.shelf ≡ s.shelf)) s.run.tower s'.run.tower h d.does (λ u u' part g e. outs_here P kept Anything s.shelf s'.shelf site.fac site.node (link_of link) d.result u u' g e)
@@ -244,8 +265,13 @@ words P kept Is clock plan line (events.Ledger dif node) w ns w' special unspoil
 words P kept Is clock plan line (events.Cdap dif node bytes) w ns w' special unspoilt h d = at_site P (dif_site_at plan dif node) (CallsCdap bytes w) w d.says w' h d.does (λ site c. asking P bytes w site d.says w' h c)
 words P kept Is clock plan line (events.Rib dif node path) w ns w' special unspoilt h d = showing_rib P line path (dif_site_at plan dif node) w ns w' h d
 words P kept Is clock plan line (events.Publish dif node fac) w ns w' special unspoilt h d =
-    at_site P (dif_site_at plan dif node) (λ site. AtLower 3 (number_below site.rank (fac_named plan fac)) (CallsPublish w site) w) w d.says w' h d.does (λ site u.
-    at_lower P (number_below site.rank (fac_named plan fac)) (CallsPublish w site) w d.says w' h u (λ n c. publishes P kept w site n d.says w' h c))
+    at_site P (dif_site_at plan dif node) (λ site. AtField 3 (number_below site.rank (fac_named plan fac)) (CallsPublish w site) w) w d.says w' h d.does (λ site u.
+    at_field P 3 (number_below site.rank (fac_named plan fac)) (CallsPublish w site) w d.says w' h u (λ n c. publishes P kept w site n d.says w' h c))
+words P kept Is clock plan line (events.Enrol dif node fac peer) w ns w' special unspoilt h d =
+    let Call : Site → ℕ → ℕ → Option Answer → Run → Type 0 = CallsEnrol fac node w in
+    at_site P (dif_site_at plan dif node) (λ site. AtField 3 (number_below site.rank (fac_named plan fac)) (λ n. AtField 4 (place_in plan.nodes peer) (Call site n) w) w) w d.says w' h d.does (λ site u.
+    at_field P 3 (number_below site.rank (fac_named plan fac)) (λ n. AtField 4 (place_in plan.nodes peer) (Call site n) w) w d.says w' h u (λ n v.
+    at_field P 4 (place_in plan.nodes peer) (Call site n) w d.says w' h v (λ m c. enrols P kept fac node w site n m d.says w' h c)))
 words P kept Is clock plan line (events.Member dif node) w ns w' special unspoilt h d = at_site P (dif_site_at plan dif node) (TellsMember w) w d.says w' h d.does (λ site c. subst (λ (v : Run). Holds P v.tower) (sym c.run) h)
 words P kept Is clock plan line event w ns w' special unspoilt h d = absurd d.does
 

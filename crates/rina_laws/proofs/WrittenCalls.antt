@@ -57,7 +57,7 @@ use Rattle.rina_tower.proofs.Serving.{allocates_seen, claims_seen, frees_seen, p
 use Rattle.rina_tower.proofs.Walks.{asked_beside, passed_beside, sent_beside}
 use Rattle.rina_laws.specs.Written.{MayWrite, TakesNoMore}
 use Rattle.rina_laws.proofs.WrittenGoes.{Goes, goes_same}
-use Rattle.rina_laws.proofs.WrittenGrows.{Grows, MayBeWritten, RankGrows, any_grows, grows_same, one_grows, same_grows, writes_grow}
+use Rattle.rina_laws.proofs.WrittenGrows.{Grows, MayBeWritten, RankGrows, any_grows, grows_same, one_grows, rank_more, same_grows, writes_grow}
 
 -- ---- what may be written off
 
@@ -98,6 +98,15 @@ here W p p' difs difs' below below' v rank alone grows same = subst (λ (b : Tow
 -- a call that changes no IPC process writes nothing
 serves_grow : (W : MayBeWritten) (changes : Dif → Dif → Type 0) (call : Seen → Seen → Type 0) (n : ℕ) (none : Type 0) (difs difs' : List Dif) (below : Tower) → ((d d' : Dif) → changes d d' → d'.processes ≡ d.processes) → AtDif n (Serves call changes n) none difs difs' → RankGrows W difs below difs'
 serves_grow W changes call n none difs difs' below same a = any_grows W (Serves call changes n) n none difs difs' below (λ d d' at s. same_grows W below d d' (same d d' s.rest)) a
+
+-- ---- what is done below a DIF that takes a step
+
+pub record Stood (W : MayBeWritten) (t t' : Tower) : Type 0 where
+  pub valid : IsTower t'
+  pub grows : Grows W t t'
+
+pub stood_same : (W : MayBeWritten) (t t' : Tower) → IsTower t → t' ≡ t → Stood W t t'
+stood_same W t t' v is = subst (Stood W t) (sym is) (record { valid = v; grows = grows_same W t })
 
 -- ---- names and asks
 
@@ -143,6 +152,16 @@ allocates W ask x (Rank' p difs below) (Rank' p' difs' below') v plain d =
 allocates W ask x (Wires a) (Rank' p difs below) v plain d = absurd d
 allocates W ask x (Rank' p difs below) (Wires a) v plain d = absurd d
 
+-- of an ask of any application, that of an IPC process too
+pub allocates_stood : (W : MayBeWritten) (ask : Ask) (x : Result Port AllocateError) (u u' : Tower) → IsTower u → AllocatesAtTop ask x u u' → Stood W u u'
+allocates_stood W ask x (Wires a) (Wires a') v d = record { valid = sound_allocates a ask x a' v d; grows = tt }
+allocates_stood W ask x (Rank' p difs below) (Rank' p' difs' below') v d = subst (λ (b : Tower). Stood W (Rank' p difs below) (Rank' p' difs' b)) (sym d.1) (record {
+  valid = (rank_serves _ ask.fac _ difs difs' below v.0 v.1 d.0, v.1);
+  grows = (serves_grow W ChangesNothing _ ask.fac _ difs difs' below (λ y y' s. ap (λ (z : Dif). z.processes) s) d.0, grows_same W below);
+})
+allocates_stood W ask x (Wires a) (Rank' p difs below) v d = absurd d
+allocates_stood W ask x (Rank' p difs below) (Wires a) v d = absurd d
+
 pub claims : (W : MayBeWritten) (fac node : ℕ) (app : List ℕ) (x : Option Port) (u u' : Tower) → IsTower u → ClaimsAtTop fac node app x u u' → Goes W u u'
 claims W fac node app x (Wires a) (Wires a') v d = record {
   valid = sound_claims a fac node app x a' v d;
@@ -158,14 +177,6 @@ claims W fac node app x (Wires a) (Rank' p difs below) v d = absurd d
 claims W fac node app x (Rank' p difs below) (Wires a) v d = absurd d
 
 -- ---- SDUs
-
--- what is done below a DIF that takes a step
-pub record Stood (W : MayBeWritten) (t t' : Tower) : Type 0 where
-  pub valid : IsTower t'
-  pub grows : Grows W t t'
-
-pub stood_same : (W : MayBeWritten) (t t' : Tower) → IsTower t → t' ≡ t → Stood W t t'
-stood_same W t t' v is = subst (Stood W t) (sym is) (record { valid = v; grows = grows_same W t })
 
 sends_grow : (W : MayBeWritten) (port : Port) (bytes : List ℕ) (x : Result Num SendError) (none : Type 0) (difs difs' : List Dif) (below : Tower) → IsRank difs below → AtDif port.fac (SendsFrom port bytes x) none difs difs' → RankGrows W difs below difs'
 sends_grow W port bytes x none difs difs' below rank a = any_grows W (SendsFrom port bytes x) port.fac none difs difs' below (λ d d' at s.
@@ -223,14 +234,23 @@ passes W port (Rank' p difs below) (Wires a) v waits plain d = absurd d
 
 -- ---- the end of a flow
 
+-- what may be written where a flow is freed; of no port it is said that its flow takes no more
+pub record MayFree (d : Dif) (below : Tower) (i : ℕ) (off : Off) : Type 0 where
+  pub lines : List Direction
+  pub holds : Holds d lines (seen_of below)
+  pub may : MayWriteOff (seen_of_dif d) lines (seen_of below) NoPort i off
+
 no_port : (below : Tower) (port : Port) → NoPort port → TakesNoMore below port
 no_port below port none = absurd none
 
-frees_grow : (port : Port) (x : Result (Unit {0}) FreeError) (none : Type 0) (difs difs' : List Dif) (below : Tower) → IsRank difs below → AtDif port.fac (FreesFrom port x) none difs difs' → RankGrows MayWrite difs below difs'
-frees_grow port x none difs difs' below rank a = any_grows MayWrite (FreesFrom port x) port.fac none difs difs' below (λ d d' at s.
+pub may_free : (d : Dif) (below : Tower) (i : ℕ) (off : Off) → MayFree d below i off → MayWrite d below i off
+may_free d below i off m = may_write d m.lines below NoPort i off m.holds (no_port below) m.may
+
+frees_grow : (port : Port) (x : Result (Unit {0}) FreeError) (none : Type 0) (difs difs' : List Dif) (below : Tower) → IsRank difs below → AtDif port.fac (FreesFrom port x) none difs difs' → RankGrows MayFree difs below difs'
+frees_grow port x none difs difs' below rank a = any_grows MayFree (FreesFrom port x) port.fac none difs difs' below (λ d d' at s.
     let st = rank.standing.stand port.fac d at in
     let seen = seen_of below in
-    writes_grow MayWrite (MayWriteOff (seen_of_dif d) st.0 seen NoPort) below d d' (λ i off m. may_write d st.0 below NoPort i off st.1 (no_port below) m) (frees_write d st.0 seen (place_in port d.flows.journal.ends) x d' st.1 (s.does st.0 seen st.1))) a
+    writes_grow MayFree (MayWriteOff (seen_of_dif d) st.0 seen NoPort) below d d' (λ i off m. record { lines = st.0; holds = st.1; may = m }) (frees_write d st.0 seen (place_in port d.flows.journal.ends) x d' st.1 (s.does st.0 seen st.1))) a
 
 pub frees : (port : Port) (x : Result (Unit {0}) FreeError) (u u' : Tower) → IsTower u → FreesAtTop port x u u' → Goes MayWrite u u'
 frees port x (Wires a) (Wires a') v d = record {
@@ -241,15 +261,15 @@ frees port x (Wires a) (Wires a') v d = record {
 }
 frees port x (Rank' p difs below) (Rank' p' difs' below') v d =
     let alone = frees_alone IsIpc false (seen_of_difs (now_of below) difs) port x (seen_of_difs (now_of below) difs') (frees_seen port x difs difs' below v.0 d.0) in
-    here MayWrite p p' difs difs' below below' v (rank_frees port x _ difs difs' below v.0 v.1 d.0) alone (frees_grow port x _ difs difs' below v.0 d.0) d.1
+    here MayWrite p p' difs difs' below below' v (rank_frees port x _ difs difs' below v.0 v.1 d.0) alone (rank_more MayFree MayWrite difs difs' below may_free (frees_grow port x _ difs difs' below v.0 d.0)) d.1
 frees port x (Wires a) (Rank' p difs below) v d = absurd d
 frees port x (Rank' p difs below) (Wires a) v d = absurd d
 
-pub frees_stood : (port : Port) (x : Result (Unit {0}) FreeError) (u u' : Tower) → IsTower u → FreesAtTop port x u u' → Stood MayWrite u u'
+pub frees_stood : (port : Port) (x : Result (Unit {0}) FreeError) (u u' : Tower) → IsTower u → FreesAtTop port x u u' → Stood MayFree u u'
 frees_stood port x (Wires a) (Wires a') v d = record { valid = sound_frees a port x a' v d; grows = tt }
-frees_stood port x (Rank' p difs below) (Rank' p' difs' below') v d = subst (λ (b : Tower). Stood MayWrite (Rank' p difs below) (Rank' p' difs' b)) (sym d.1) (record {
+frees_stood port x (Rank' p difs below) (Rank' p' difs' below') v d = subst (λ (b : Tower). Stood MayFree (Rank' p difs below) (Rank' p' difs' b)) (sym d.1) (record {
   valid = (rank_frees port x _ difs difs' below v.0 v.1 d.0, v.1);
-  grows = (frees_grow port x _ difs difs' below v.0 d.0, grows_same MayWrite below);
+  grows = (frees_grow port x _ difs difs' below v.0 d.0, grows_same MayFree below);
 })
 frees_stood port x (Wires a) (Rank' p difs below) v d = absurd d
 frees_stood port x (Rank' p difs below) (Wires a) v d = absurd d

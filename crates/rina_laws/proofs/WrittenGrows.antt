@@ -36,6 +36,17 @@ DifGrows W below d d' = (i k : ℕ) (off : Off) → line_of d'.processes i k ≡
 pub same_grows : (W : MayBeWritten) (below : Tower) (d d' : Dif) → d'.processes ≡ d.processes → DifGrows W below d d'
 same_grows W below d d' same i k off h = inl (subst (λ (ps : List IpcProcess). line_of ps i k ≡ Some off) same h)
 
+pub line_in : (o : Option IpcProcess) (k : ℕ) (off : Off) → option_and_then (λ (p : IpcProcess). slice_get p.ledger k) o ≡ Some off → (p : IpcProcess) × (o ≡ Some p) × (slice_get p.ledger k ≡ Some off)
+line_in None k off h = cc
+line_in (Some p) k off h = (p, refl, h)
+
+-- each ledger is as it was
+pub ledgers_grow : (W : MayBeWritten) (below : Tower) (d d' : Dif) → ((i : ℕ) (p' : IpcProcess) → slice_get d'.processes i ≡ Some p' → (p : IpcProcess) × (slice_get d.processes i ≡ Some p) × (p'.ledger ≡ p.ledger)) → DifGrows W below d d'
+ledgers_grow W below d d' same i k off h =
+    let m = line_in (slice_get d'.processes i) k off h in
+    let x = same i m.0 m.1 in
+    inl (ap (option_and_then (λ (p : IpcProcess). slice_get p.ledger k)) x.1 ∙ subst (λ (ls : List Off). slice_get ls k ≡ Some off) x.2 m.2)
+
 in_at : (ys : List Off) (k : ℕ) (x : Off) → slice_get ys k ≡ Some x → In x ys
 in_at [] k x h = cc
 in_at (y ∷ ys) zero x h = inl (sym (same_Some y x h))
@@ -45,10 +56,6 @@ joined_at : (xs ys : List Off) (k : ℕ) (x : Off) → slice_get (xs ++ ys) k �
 joined_at [] ys k x h = inr (refl, in_at ys k x h)
 joined_at (z ∷ xs) ys zero x h = inl h
 joined_at (z ∷ xs) ys (suc k) x h = joined_at xs ys k x h
-
-pub line_in : (o : Option IpcProcess) (k : ℕ) (off : Off) → option_and_then (λ (p : IpcProcess). slice_get p.ledger k) o ≡ Some off → (p : IpcProcess) × (o ≡ Some p) × (slice_get p.ledger k ≡ Some off)
-line_in None k off h = cc
-line_in (Some p) k off h = (p, refl, h)
 
 -- what a call or a step writes
 pub writes_grow : (W : MayBeWritten) (holds : ℕ → Off → Type 0) (below : Tower) (d d' : Dif) → ((i : ℕ) (off : Off) → holds i off → W d below i off) → Writes holds (seen_of_dif d) (seen_of_dif d') → DifGrows W below d d'
@@ -94,6 +101,18 @@ Grows W t t' = ⊥
 pub grows_same : (W : MayBeWritten) (t : Tower) → Grows W t t
 grows_same W (Wires a) = tt
 grows_same W (Rank' p difs below) = (rank_same W difs below, grows_same W below)
+
+-- what may be written by one may be written by another
+pub rank_more : (W V : MayBeWritten) (difs difs' : List Dif) (below : Tower) → ((d : Dif) (u : Tower) (i : ℕ) (off : Off) → W d u i off → V d u i off) → RankGrows W difs below difs' → RankGrows V difs below difs'
+rank_more W V difs difs' below all g n d' at =
+    let x = g n d' at in
+    (x.0, x.1, λ i k off h. elim (x.2 i k off h) [ inl o ↦ inl o | inr w ↦ inr (w.0, all x.0 below i off w.1) ])
+
+pub grows_more : (W V : MayBeWritten) (t t' : Tower) → ((d : Dif) (u : Tower) (i : ℕ) (off : Off) → W d u i off → V d u i off) → Grows W t t' → Grows V t t'
+grows_more W V (Wires a) (Wires a') all g = tt
+grows_more W V (Rank' p difs below) (Rank' p' difs' below') all g = (rank_more W V difs difs' below all g.0, grows_more W V below below' all g.1)
+grows_more W V (Wires a) (Rank' p difs below) all g = absurd g
+grows_more W V (Rank' p difs below) (Wires a) all g = absurd g
 
 -- where nothing is new, one change after another
 never_on : (below lower : Tower) (d e f : Dif) → DifGrows Never below d e → DifGrows Never lower e f → DifGrows Never below d f

@@ -22,7 +22,7 @@ use Rattle.rina_tower.specs.Ranks.{height_of, now_of, seen_of}
 use Rattle.rina_tower.specs.Rounds.{AllMove, IsRound, Move}
 use Rattle.rina_tower.specs.Stands.{IsTower}
 use Rattle.rina_words.specs.declared.run.Run.{Run}
-use Rattle.rina_words.specs.Built.{event_at}
+use Rattle.rina_schedule.specs.Line.{line_at as event_at}
 use Rattle.rina_words.specs.Step.{Acts, RoundsBy, Stage, Ticking, Ticks, rounds_after}
 use Rattle.rina_run.specs.Run.{LineDoes, Runs}
 use Rattle.rina_laws.specs.SomeStep.{LinesHaveCauses, SomeAfter, SomeMove, SomeOfLine, SomeOfRound, SomeOfTicking, SomeOfTicks, SomeOfWord, SomeStep}

@@ -6,17 +6,13 @@ use Rattle.rina_base.specs.declared.cause.Cause.{Cause}
 use Rattle.rina_base.specs.declared.cause.Cause.TheVariants.{LinkDown}
 use Rattle.rina_base.specs.declared.number.Num.{Num}
 use Rattle.rina_base.specs.declared.number.Port.{Port}
-use Rattle.rina_iface.specs.declared.error.FreeError.{FreeError}
-use Rattle.rina_iface.specs.declared.error.FreeError.TheVariants as freeing
 use Rattle.rina_iface.specs.declared.error.SendError.{SendError}
-use Rattle.rina_iface.specs.Free.{FreesAsSeen}
 use Rattle.rina_iface.specs.Pass.{PassesAsSeen}
 use Rattle.rina_iface.specs.Send.{SendsAsSeen}
 use Rattle.rina_law.specs.Direction.{Direction}
 use Rattle.rina_policy.specs.declared.policy.Head.{Head}
 use Rattle.rina_policy.specs.Slots.{Slot}
 use Rattle.rina_data.specs.declared.step.ClockStep.{ClockStep}
-use Rattle.rina_data.specs.declared.step.ClockStep.TheVariants as clocks
 use Rattle.rina_data.specs.declared.step.InStep.{InStep}
 use Rattle.rina_data.specs.declared.step.InStep.TheVariants as ins
 use Rattle.rina_data.specs.declared.step.OutStep.{OutStep}
@@ -28,7 +24,6 @@ use Rattle.rina_data.proofs.Finding.{there}
 use Rattle.rina_dif_law.specs.WriteOffs.{IsOverNow, MayWriteOff, NoPort, RefusesOver}
 use Rattle.rina_dif.specs.declared.dif.Dif.{Dif}
 use Rattle.rina_dif.specs.Holding.{Holds}
-use Rattle.rina_dif.specs.Lower.{FreesBelow}
 use Rattle.rina_dif.specs.Shown.{seen_of as seen_of_dif}
 use Rattle.rina_dif.specs.WriteOffs.{MayByClock}
 use Rattle.rina_dif.proofs.Warrants.{clocks_write, ins_at_write, outs_at_write}
@@ -37,23 +32,24 @@ use Rattle.rina_wire.specs.Air.{Air}
 use Rattle.rina_wire.proofs.SoundTick.{sound_ticks}
 use Rattle.rina_tower.specs.declared.tower.Tower.{Tower, Wires, Rank'}
 use Rattle.rina_tower.specs.Bystanders.{Anyone, IsIpc, Leaves}
-use Rattle.rina_tower.specs.Calls.{FreesWhole, PassesAtTop, SendsWhole}
+use Rattle.rina_tower.specs.Calls.{PassesAtTop, SendsWhole}
 use Rattle.rina_tower.specs.ClockTick.{AreClocked, Ticks}
 use Rattle.rina_tower.specs.Levels.{AtDif, SameBelow}
 use Rattle.rina_tower.specs.MemoryFailure.{has_failed}
 use Rattle.rina_tower.specs.Ranks.{height_of, now_of, seen_of}
-use Rattle.rina_tower.specs.Refusals.{frees_both, refuses_send}
+use Rattle.rina_tower.specs.Refusals.{refuses_send}
 use Rattle.rina_tower.specs.Rounds.{Anything, ClockMove, InMove, Move, Moves, OutMove}
 use Rattle.rina_tower.specs.Stands.{IsTower}
 use Rattle.rina_tower.specs.StepEffect.{StandsAfter}
-use Rattle.rina_tower.specs.Steps.{ClocksAtTop, ClocksOne, InStepsAtTop, OutStepsAtTop, SendsOne, TakesOne}
+use Rattle.rina_tower.specs.Steps.{ClocksAtTop, ClocksOne, InStepsAtTop, OutStepsAtTop, SendsOne, TakesOne, claimant}
 use Rattle.rina_tower.proofs.Alone.{fewer_now}
 use Rattle.rina_tower.proofs.Serving.{rank_stepped, same_height, stepped_alone}
 use Rattle.rina_tower.proofs.Stepped.{is_stepped}
 use Rattle.rina_tower.proofs.Timing.{rank_ticked, ticked_alone}
 use Rattle.rina_tower.proofs.Wiring.{ticks_alone}
 use Rattle.rina_laws.specs.Written.{MayWrite, TakesNoMore}
-use Rattle.rina_laws.proofs.WrittenCalls.{Stood, frees_stood, may_write, passes_stood, sends_stood, stood_same}
+use Rattle.rina_laws.proofs.WrittenCalls.{Stood, may_write, passes_stood, sends_stood, stood_same}
+use Rattle.rina_laws.proofs.WrittenClaims.{clocked_below}
 use Rattle.rina_laws.proofs.WrittenGoes.{Goes, at_rank, goes_same}
 use Rattle.rina_laws.proofs.WrittenGrows.{Grows, MayBeWritten, RankGrows, any_grows, same_grows, writes_grow}
 
@@ -84,29 +80,6 @@ left_below W (Err Memory) b b' v (inr d) = sent_below W d.0 d.1.0 (Err d.1.1) b 
 left_below W (Err NoIpc) b b' v d = stood_same W b b' v d
 left_below W (Err NoLink) b b' v d = stood_same W b b' v d
 left_below W (Err (CountSpent need left)) b b' v d = stood_same W b b' v d
-
-freed_there : (port : Port) (r : Result (Unit {0}) FreeError) (b b' : Tower) → IsTower b → FreesAsSeen seen_of frees_both FreesWhole b b' port r → Stood MayWrite b b'
-freed_there port r b b' v d = elim (has_failed b) as (λ z. has_failed b ≡ z → Stood MayWrite b b') [
-  | true ↦ λ is. stood_same MayWrite b b' v (d.1.1 is).1
-  | false ↦ λ is. frees_stood port r b b' v (d.1.0 is)
-] refl
-
-freed_below : (x : Result ClockStep StepError) (b b' : Tower) → IsTower b → FreesBelow (b' ≡ b) (FreesAsSeen seen_of frees_both FreesWhole b b') x → Stood MayWrite b b'
-freed_below (Ok (clocks.GaveUp num)) b b' v (inl d) = stood_same MayWrite b b' v d.1
-freed_below (Ok (clocks.GaveUp num)) b b' v (inr d) = freed_there d.1 (Ok tt) b b' v d.2
-freed_below (Ok clocks.Idle) b b' v d = stood_same MayWrite b b' v d
-freed_below (Ok (clocks.Gone cep)) b b' v d = stood_same MayWrite b b' v d
-freed_below (Ok (clocks.Ack cep)) b b' v d = stood_same MayWrite b b' v d
-freed_below (Ok (clocks.Again num)) b b' v d = stood_same MayWrite b b' v d
-freed_below (Ok (clocks.LinkLost link)) b b' v d = stood_same MayWrite b b' v d
-freed_below (Ok (clocks.LinkNew link)) b b' v d = stood_same MayWrite b b' v d
-freed_below (Ok (clocks.Timeout port)) b b' v d = stood_same MayWrite b b' v d
-freed_below (Ok (clocks.Message link)) b b' v d = stood_same MayWrite b b' v d
-freed_below (Err Memory) b b' v (inl d) = stood_same MayWrite b b' v d
-freed_below (Err Memory) b b' v (inr d) = freed_there d.0 (Err freeing.Memory) b b' v d.1
-freed_below (Err NoIpc) b b' v d = stood_same MayWrite b b' v d
-freed_below (Err NoLink) b b' v d = stood_same MayWrite b b' v d
-freed_below (Err (CountSpent need left)) b b' v d = stood_same MayWrite b b' v d
 
 -- ---- a step of a DIF at the top rank
 
@@ -169,7 +142,7 @@ does_due dif node x (Rank' p difs below) (Rank' p' difs' below') v d =
     let grows = any_grows MayWrite Does dif _ difs difs' below (λ y y' at s.
     let st = v.0.standing.stand dif y at in
     writes_grow MayWrite (MayByClock y st.0 seen node) below y y' (λ i off m. may_by_clock y st.0 below node i off st.1 m) (clocks_write y st.0 seen node x y' (seen_of below') st.1 (s.does st.0 st.1))) d.0 in
-    stepped MayWrite dif Does ((x ≡ Err NoIpc) × (below' ≡ below)) p p' difs difs' below below' v (λ y y' s. s.after) (λ no. no.1) grows d.0 d.1 (freed_below x below below' v.1 d.2)
+    stepped MayWrite dif Does ((x ≡ Err NoIpc) × (below' ≡ below)) p p' difs difs' below below' v (λ y y' s. s.after) (λ no. no.1) grows d.0 d.1 (clocked_below node (claimant difs dif node) below below' v.1 x d.2)
 does_due dif node x (Wires a) (Rank' p difs below) v d = absurd d
 does_due dif node x (Rank' p difs below) (Wires a) v d = absurd d
 

@@ -6,11 +6,13 @@ use Rattle.rina_law.specs.declared.entry.Entry.{Entry}
 use Rattle.rina_iface.specs.Seen.{unpassed}
 use Rattle.rina_data.specs.declared.step.StepError.TheVariants.{NoIpc}
 use Rattle.rina_dif.specs.declared.cdap.CdapCallError.TheVariants.{NoIpc as NoneThere}
+use Rattle.rina_dif.specs.declared.enrol.EnrolError.TheVariants.{NoIpc as NoMember}
 use Rattle.rina_report.specs.declared.note.Note.{Note}
 use Rattle.rina_report.specs.declared.answer.Answer.{Answer}
 use Rattle.rina_schedule.specs.declared.event.Event.{Event}
 use Rattle.rina_schedule.specs.declared.event.Event.TheVariants as events
 use Rattle.rina_stack.specs.declared.plan.Plan.{Plan}
+use Rattle.rina_stack.specs.Names.{place_in}
 use Rattle.rina_wire.specs.declared.event.WireError.{WireError}
 use Rattle.rina_wire.specs.Air.{Air}
 use Rattle.rina_wire.specs.Cut.{CutsOn, MendsOn}
@@ -22,6 +24,7 @@ use Rattle.rina_tower.specs.Applications.{AppPasses, is_ipc_at}
 use Rattle.rina_tower.specs.Bystanders.{Anyone, IsIpc, LeavesNow, is_ipc}
 use Rattle.rina_tower.specs.Calls.{AllocatesAtTop, ClaimsAtTop, FreesAtTop, PassesAtTop, RegistersAtTop, SendsAtTop, UnregistersAtTop}
 use Rattle.rina_tower.specs.Cdap.{AsksAtTop}
+use Rattle.rina_tower.specs.Enrolling.{EnrolsAtTop}
 use Rattle.rina_tower.specs.Events.{Cuts, HoldsBack, Loses, Mends, Repeats}
 use Rattle.rina_tower.specs.Ranks.{rank_of, seen_of}
 use Rattle.rina_tower.specs.Rounds.{Anything}
@@ -34,10 +37,11 @@ use Rattle.rina_notes.specs.declared.label.Label.{Label}
 use Rattle.rina_notes.specs.declared.site.Site.{Site}
 use Rattle.rina_notes.specs.Sites.{dif_site_at, fac_named, label_in, port_in, site_at}
 use Rattle.rina_words.specs.declared.run.Run.{Run}
-use Rattle.rina_words.specs.Step.{Accounting, ActsOnRun, AtLower, AtPort, AtSite, AtWire, CallsAllocate, CallsCdap, CallsClock, CallsFree, CallsIn, CallsIncoming, CallsPublish, CallsRegister, CallsSend, CallsUnregister, CallsWire, LettingOut, Passes, Reading, SaysBeside, Showing, ShowingRib, Stage, TellsMember, TellsState, Unlabelled, asked, for_app, link_of, number_below, waiting, wire_of}
+use Rattle.rina_words.specs.Step.{Accounting, ActsOnRun, AtField, AtPort, AtSite, AtWire, CallsAllocate, CallsCdap, CallsClock, CallsEnrol, CallsFree, CallsIn, CallsIncoming, CallsPublish, CallsRegister, CallsSend, CallsUnregister, CallsWire, LettingOut, Passes, Reading, SaysBeside, Showing, ShowingRib, Stage, TellsMember, TellsState, Unlabelled, asked, for_app, link_of, number_below, waiting, wire_of}
 use Rattle.rina_laws.specs.Written.{MayWrite}
 use Rattle.rina_laws.proofs.Published.{MayRegister, published}
 use Rattle.rina_laws.proofs.WrittenCalls as calls
+use Rattle.rina_laws.proofs.WrittenEnrols.{enrols}
 use Rattle.rina_laws.proofs.WrittenGoes.{Goes, at_app, at_claim, at_rank, at_wires, goes_same}
 use Rattle.rina_laws.proofs.WrittenGrows.{MayBeWritten, Never, grows_on}
 use Rattle.rina_laws.proofs.WrittenSteps.{does_due, lets_out, takes}
@@ -67,9 +71,9 @@ at_wire : (W : MayBeWritten) (o : Option ℕ) (Does : ℕ → Result (Unit {0}) 
 at_wire W None Does w says w' v next d = same W w w' v d.run
 at_wire W (Some n) Does w says w' v next d = next n d.result d.does
 
-at_lower : (W : MayBeWritten) (o : Option ℕ) (Call : ℕ → Option Answer → Run → Type 0) (w : Run) (says : Option Answer) (w' : Run) → IsTower w.tower → ((n : ℕ) → Call n says w' → GoesIn W w w') → AtLower 3 o Call w says w' → GoesIn W w w'
-at_lower W None Call w says w' v next d = same W w w' v d.run
-at_lower W (Some n) Call w says w' v next d = next n d
+at_field : (W : MayBeWritten) (field : ℕ) (o : Option ℕ) (Call : ℕ → Option Answer → Run → Type 0) (w : Run) (says : Option Answer) (w' : Run) → IsTower w.tower → ((n : ℕ) → Call n says w' → GoesIn W w w') → AtField field o Call w says w' → GoesIn W w w'
+at_field W field None Call w says w' v next d = same W w w' v d.run
+at_field W field (Some n) Call w says w' v next d = next n d
 
 -- ---- calls of applications
 
@@ -154,6 +158,9 @@ publishes W w site fac says w' v c =
     let k = published site.rank site.fac site.node fac c.result w.tower w'.tower c.does in
     at_rank W k.rank (MayRegister fac site.node) ⊥ w.tower w'.tower v (λ u u' is t e. may_register W fac site.node u u' t e) k.done
 
+enrolling : (W : MayBeWritten) (fac_name node_name : List ℕ) (w : Run) (site : Site) (fac peer : ℕ) (says : Option Answer) (w' : Run) → IsTower w.tower → CallsEnrol fac_name node_name w site fac peer says w' → GoesIn W w w'
+enrolling W fac_name node_name w site fac peer says w' v c = at_rank W site.rank (EnrolsAtTop site.fac site.node fac peer c.result) (c.result ≡ Err NoMember) w.tower w'.tower v (λ u u' is k e. enrols W site.fac site.node fac peer c.result u u' k e) c.does
+
 takes_in : (plan : Plan) (link : ℕ) (w : Run) (site : Site) (says : Option Answer) (w' : Run) → IsTower w.tower → CallsIn plan link w site says w' → GoesIn MayWrite w w'
 takes_in plan link w site says w' v c = at_rank MayWrite site.rank (InStepsAtTop site.fac site.node (link_of link) c.result) (c.result ≡ Err NoIpc) w.tower w'.tower v (λ u u' is k e. takes site.fac site.node (link_of link) c.result u u' k e) c.does
 
@@ -205,8 +212,13 @@ words plan line (events.Ledger dif node) w ns w' v d = accounting Never plan lin
 words plan line (events.Rib dif node path) w ns w' v d = showing_rib Never line path (dif_site_at plan dif node) w ns w' v d
 words plan line (events.Cdap dif node bytes) w ns w' v d = at_site Never (dif_site_at plan dif node) (CallsCdap bytes w) w d.says w' v (λ site c. asking Never bytes w site d.says w' v c) d.does
 words plan line (events.Publish dif node fac) w ns w' v d =
-    at_site Never (dif_site_at plan dif node) (λ site. AtLower 3 (number_below site.rank (fac_named plan fac)) (CallsPublish w site) w) w d.says w' v (λ site u.
-    at_lower Never (number_below site.rank (fac_named plan fac)) (CallsPublish w site) w d.says w' v (λ n c. publishes Never w site n d.says w' v c) u) d.does
+    at_site Never (dif_site_at plan dif node) (λ site. AtField 3 (number_below site.rank (fac_named plan fac)) (CallsPublish w site) w) w d.says w' v (λ site u.
+    at_field Never 3 (number_below site.rank (fac_named plan fac)) (CallsPublish w site) w d.says w' v (λ n c. publishes Never w site n d.says w' v c) u) d.does
+words plan line (events.Enrol dif node fac peer) w ns w' v d =
+    let Call : Site → ℕ → ℕ → Option Answer → Run → Type 0 = CallsEnrol fac node w in
+    at_site Never (dif_site_at plan dif node) (λ site. AtField 3 (number_below site.rank (fac_named plan fac)) (λ n. AtField 4 (place_in plan.nodes peer) (Call site n) w) w) w d.says w' v (λ site u.
+    at_field Never 3 (number_below site.rank (fac_named plan fac)) (λ n. AtField 4 (place_in plan.nodes peer) (Call site n) w) w d.says w' v (λ n s.
+    at_field Never 4 (place_in plan.nodes peer) (Call site n) w d.says w' v (λ m c. enrolling Never fac node w site n m d.says w' v c) s) u) d.does
 words plan line (events.Member dif node) w ns w' v d = at_site Never (dif_site_at plan dif node) (TellsMember w) w d.says w' v (λ site c. same Never w w' v c.run) d.does
 words plan line event w ns w' v d = absurd d.does
 

@@ -12,7 +12,7 @@ use Rattle.rina_report.specs.declared.note.Note.TheVariants as notes
 use Rattle.rina_schedule.specs.declared.event.Event.TheVariants as events
 use Rattle.rina_stack.specs.declared.plan.Plan.{Plan}
 use Rattle.rina_wire.specs.Air.{Line, wire_at}
-use Rattle.rina_words.specs.Built.{event_at}
+use Rattle.rina_schedule.specs.Line.{line_at}
 use Rattle.rina_words.specs.Step.{Stage, wire_of}
 use Rattle.rina_run.specs.Opening.{IsOpening}
 use Rattle.rina_run.specs.Run.{Runs}
@@ -24,7 +24,7 @@ pub record IsCut (plan : Plan) (fac at : ℕ) (lines : List (List ℕ)) (ns : Li
   pub line : List ℕ
   pub wire : List ℕ
   pub stands : slice_get lines before ≡ Some line
-  pub asks : event_at line ≡ Ok (Some (events.Cut wire))
+  pub asks : line_at line ≡ Ok (Some (events.Cut wire))
   pub names : wire_of plan wire ≡ Some fac
   pub told : Contains ns (notes.Line (before + 1) at Done)
 

@@ -1,5 +1,5 @@
 -- What becomes of the frames of a run: each that no event touched, and that its wire's storm neither lost nor repeated, arrives once.
-use Rattle.std.specs.Prelude.{◌≡◌, ◌≢◌, ℕ, ◌+◌, ◌<◌, ◌≤◌, ◌==◌, List, [], ◌∷◌, filter, take, slice_get, Option, Some, None, Ok}
+use Rattle.std.specs.Prelude.{◌≡◌, ◌≢◌, ◌⊎◌, ℕ, ◌+◌, ◌<◌, ◌≤◌, ◌==◌, List, [], ◌∷◌, filter, take, slice_get, Option, Some, None, Ok}
 use Rattle.rina_base.specs.declared.number.Num.{Num}
 use Rattle.rina_base.specs.declared.number.Port.{Port}
 use Rattle.rina_iface.specs.declared.state.PortState.TheVariants.{Allocated}
@@ -14,6 +14,7 @@ use Rattle.rina_schedule.specs.declared.event.Event.{Event}
 use Rattle.rina_schedule.specs.declared.event.Event.TheVariants as events
 use Rattle.rina_stack.specs.declared.plan.Plan.{Plan}
 use Rattle.rina_wire.specs.Air.{Air, Line, wire_at}
+use Rattle.rina_wire.specs.Claim.{ClaimsOn}
 use Rattle.rina_wire.specs.Free.{FreesOn}
 use Rattle.rina_wire.specs.Send.{mate}
 use Rattle.rina_wire.specs.Storm.{fate_at}
@@ -22,7 +23,7 @@ use Rattle.rina_tower.specs.declared.tower.Tower.{Tower, Wires, Rank'}
 use Rattle.rina_tower.specs.Ranks.{now_of}
 use Rattle.rina_tower.specs.Steps.{ClocksAt}
 use Rattle.rina_words.specs.declared.run.Run.{Run}
-use Rattle.rina_words.specs.Built.{event_at}
+use Rattle.rina_schedule.specs.Line.{line_at}
 use Rattle.rina_notes.specs.Look.{same_num, state_at}
 use Rattle.rina_run.specs.Opening.{IsOpening}
 use Rattle.rina_run.specs.Run.{Runs}
@@ -83,11 +84,16 @@ Touches plan fac frame w event = ⊥
 -- no line touches the frame in the run to which the lines before it led from the start
 abbrev pub IsSpared : Plan → Stage → ℕ → ℕ → List (List ℕ) → Type 0
 IsSpared plan start fac frame lines =
-    (before : ℕ) (line : List ℕ) (event : Event) (ns : List Note) (s : Stage) → slice_get lines before ≡ Some line → event_at line ≡ Ok (Some event)
+    (before : ℕ) (line : List ℕ) (event : Event) (ns : List Note) (s : Stage) → slice_get lines before ≡ Some line → line_at line ≡ Ok (Some event)
     → Runs plan 1 start (take before lines) ns s → Touches plan fac frame s.run event → ⊥
 
+-- wires before they were asked for a flow that came in, and after it: on one of them the oldest far end that waited for an application at a node was claimed, or
+-- nothing changed
+abbrev pub AreAsked : Air → Air → Type 0
+AreAsked a asked = (asked ≡ a) ⊎ ((wire : ℕ) × (node : ℕ) × (app : List ℕ) × (port : Port) × ClaimsOn a wire node app (Some port) asked)
+
 -- a step takes frame `frame` of wire `fac` away: it is the step by the clock of a DIF of rank 1 in which a management connection gives a number up, which
--- is told with the CEP-id 0. It frees the flow that the wire carries while the frame is in flight
+-- is told with the CEP-id 0. The wires may be asked first for a flow that came in; then the step frees the flow that the wire carries while the frame is in flight
 pub record GivesUpOn (fac frame : ℕ) (t t' : Tower) : Type 0 where
   pub dif : ℕ
   pub node : ℕ
@@ -97,7 +103,9 @@ pub record GivesUpOn (fac frame : ℕ) (t t' : Tower) : Type 0 where
   pub port : Port
   pub its_wire : port.fac ≡ fac
   pub allocated : state_at t 0 port ≡ Some Allocated
-  pub frees : FreesOn (wires_of t) port (Ok tt) (wires_of t')
+  pub asked : Air
+  pub asks : AreAsked (wires_of t) asked
+  pub frees : FreesOn asked port (Ok tt) (wires_of t')
   pub flies : IsInFlight t fac frame
 
 -- in every run of a stack, every frame that any end of any wire sent, be it an application's or a DIF's, and that the wire's storm lets arrive once, is carried, unless a line
@@ -110,7 +118,8 @@ FramesArriveOnce =
     → (late : ℕ) → fate_at l.storm frame.num.seq ≡ Sent late None → IsSpared plan start fac frame.num.seq lines → (SomeStep (GivesUpOn fac frame.num.seq) plan 1 start lines ns s runs → ⊥)
     → IsCarried (l.delay + late) (now_of s.run.tower) l i frame
 
--- the wires before such a step and after it: of the wire no copy is left in flight, and each of its ends sent and got what it had; no other wire changed
+-- the wires before such a step and after it: of the wire no copy is left in flight, and each of its ends sent and got what it had; no other wire changed, but that
+-- a far end may have been claimed on one
 pub record IsEmptied (fac : ℕ) (a a' : Air) : Type 0 where
   pub before : Line
   pub was : wire_at a fac ≡ Some before
@@ -118,7 +127,9 @@ pub record IsEmptied (fac : ℕ) (a a' : Air) : Type 0 where
   pub is : wire_at a' fac ≡ Some after
   pub none : after.flights ≡ []
   pub ends : (i : ℕ) (e e' : End) → At before.ends i e → At after.ends i e' → (e'.sent ≡ e.sent) × (e'.got ≡ e.got)
-  pub others : (other : ℕ) → other ≢ fac → wire_at a' other ≡ wire_at a other
+  pub asked : Air
+  pub asks : AreAsked a asked
+  pub others : (other : ℕ) → other ≢ fac → wire_at a' other ≡ wire_at asked other
 
 -- a step in which a management connection gives up takes all frames away that are in flight on the wire of its link, and no other one
 abbrev pub GiveUpsEmptyOneWire : Type 0

@@ -19,7 +19,7 @@ use Rattle.rina_stack.specs.Plan.{IsPlan}
 use Rattle.rina_tower.specs.declared.tower.Tower.{Tower}
 use Rattle.rina_tower.specs.Ranks.{rank_of, seen_of}
 use Rattle.rina_notes.specs.declared.label.Label.{Label}
-use Rattle.rina_words.specs.Built.{event_at}
+use Rattle.rina_schedule.specs.Line.{line_at}
 use Rattle.rina_run.specs.Opening.{IsOpening}
 use Rattle.rina_run.specs.Run.{Runs}
 use Rattle.rina_words.specs.Step.{Stage}
@@ -31,7 +31,7 @@ event_in (Err e) = None
 
 -- the event of the line of this number; lines are counted from 1
 abbrev pub event_by : List (List ℕ) → ℕ → Option Event
-event_by lines number = option_and_then (λ (line : List ℕ). event_in (event_at line)) (slice_get lines (number - 1))
+event_by lines number = option_and_then (λ (line : List ℕ). event_in (line_at line)) (slice_get lines (number - 1))
 
 -- ---- what was sent
 

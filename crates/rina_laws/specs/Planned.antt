@@ -20,7 +20,7 @@ StaysAsPlanned = (plan : Plan) (shelf : List Slot) (start : Stage) (lines : List
 
 -- a DIF has the settings of a DIF of the stack, which has this rank; each of its IPC processes has its next hops by least walks over its
 -- own links that are up, and the edges that both ends claim in the items of its management. In a static DIF the own links are the live ones of
--- those that the stack says, and behind them those that enrolments made, of which there are none yet
+-- those that the stack says, and behind them those that enrolments made
 pub record IsRoutedAs (plan : Plan) (rank : ℕ) (d : Dif) : Type 0 where
   pub place : ℕ
   pub dif : DifPlan

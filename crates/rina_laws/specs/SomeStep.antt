@@ -13,7 +13,7 @@ use Rattle.rina_table.specs.declared.sketch.Rounds.TheVariants.{Auto, Manual}
 use Rattle.rina_tower.specs.declared.tower.Tower.{Tower}
 use Rattle.rina_tower.specs.Ranks.{now_of}
 use Rattle.rina_tower.specs.Rounds.{AllMove, IsRound, Move}
-use Rattle.rina_words.specs.Built.{event_at}
+use Rattle.rina_schedule.specs.Line.{line_at as event_at}
 use Rattle.rina_words.specs.Step.{Acts, RoundsBy, Stage, Ticking, Ticks, rounds_after}
 use Rattle.rina_run.specs.Opening.{IsOpening}
 use Rattle.rina_run.specs.Run.{LineDoes, Runs}

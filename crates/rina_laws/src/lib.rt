@@ -57,8 +57,9 @@ pub fn a_frame_arrives_once()
 {}
 
 /// Where a management connection of a DIF of rank 1 gives a number up, the flow of one wire is freed. No copy of a frame stays in
-/// flight on that wire. What its ends had sent and got stays, and no other wire changes. So a designer knows which frames
-/// such a step takes away: those of the wire that were in flight, and no other one.
+/// flight on that wire. What its ends had sent and got stays, and no other wire changes, but that a far end that waited
+/// on one may have been claimed. So a designer knows which frames such a step takes away: those of the wire that were in
+/// flight, and no other one.
 pub fn a_give_up_empties_one_wire()
     ensures { GiveUpsEmptyOneWire }
 {}

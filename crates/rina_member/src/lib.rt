@@ -33,3 +33,4 @@ pub use new_links::{claimed, joining};
 pub use next_hops::routes_of;
 pub use objects::{first_objects, flow_name, tell};
 pub use start::{first_enrolled, start_items, started, starts_enrolled};
+pub use texts::node_of;

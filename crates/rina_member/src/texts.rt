@@ -41,9 +41,9 @@ fn behind(name: &[u8]) -> &[u8]
     }
 }
 
-/// The name of a member's node.
+/// The name of a member's node, which stands behind the slash in the member's own name.
 #[tactic(auto, unfolding(crate::specs::Start::node_of))]
-pub(crate) fn node_of(alloc: Global, member: &Member) -> Result<Name, Memory>
+pub fn node_of(alloc: Global, member: &Member) -> Result<Name, Memory>
     ensures { IfOk result (λ n. n ≡ node_of member.now) }
 {
     let _length = member.name.len();

@@ -12,6 +12,8 @@ use Rattle.rina_data.specs.declared.step.OutStep.{OutStep}
 use Rattle.rina_data.specs.declared.step.OutStep.TheVariants as outs
 use Rattle.rina_data.specs.declared.step.ClockStep.{ClockStep}
 use Rattle.rina_data.specs.declared.step.ClockStep.TheVariants as clocks
+use Rattle.rina_dif.specs.declared.enrol.EnrolError.{EnrolError}
+use Rattle.rina_dif.specs.declared.enrol.EnrolError.TheVariants as enrol
 use Rattle.rina_iface.specs.declared.error.AllocateError.{AllocateError}
 use Rattle.rina_iface.specs.declared.error.AllocateError.TheVariants as allocate
 use Rattle.rina_iface.specs.declared.error.SendError.{SendError}
@@ -48,6 +50,11 @@ copies_drawn plan rank (Some state) = copies_state plan rank state
 abbrev pub copies_allocate : AllocateError → Bool
 copies_allocate (allocate.Busy port) = true
 copies_allocate _ = false
+
+-- what `enrol` refused: what the facility below refused
+abbrev pub copies_enrol : EnrolError → Bool
+copies_enrol (enrol.Lower e) = copies_allocate e
+copies_enrol _ = false
 
 -- what `send` refused at a rank
 abbrev pub copies_send : Plan → ℕ → SendError → Bool

@@ -32,6 +32,8 @@ use Rattle.rina_report.specs.declared.state.FailNote.TheVariants as fail_notes
 use Rattle.rina_report.specs.declared.state.StateNote.{StateNote}
 use Rattle.rina_report.specs.declared.state.StateNote.TheVariants as notes
 use Rattle.rina_stack.specs.declared.plan.Plan.{Plan}
+use Rattle.rina_dif.specs.declared.enrol.EnrolError.{EnrolError}
+use Rattle.rina_dif.specs.declared.enrol.EnrolError.TheVariants as enrol
 use Rattle.rina_tower.specs.declared.applications.AppError.{AppError}
 use Rattle.rina_tower.specs.declared.applications.AppError.TheVariants as apps
 use Rattle.rina_tower.specs.declared.publish.PublishError.{PublishError}
@@ -110,6 +112,15 @@ allocate_told fac node (allocate.NoRoute dst) = Some (refusals.NoRoute dst)
 allocate_told fac node (allocate.Busy port) = Some (refusals.Busy (port_note port.n fac node))
 allocate_told fac node (allocate.CountSpent need left) = Some (refusals.CountSpent need left)
 allocate_told fac node allocate.Unbuilt = Some refusals.Unbuilt
+
+-- what `enrol` refused at a facility below and a node of these names: of what that facility refused, that
+abbrev pub enrol_told : List ℕ → List ℕ → EnrolError → Option Refusal
+enrol_told fac node enrol.Memory = None
+enrol_told fac node enrol.NoIpc = Some refusals.NoIpc
+enrol_told fac node (enrol.Enrolling link) = Some (refusals.Enrolling link)
+enrol_told fac node (enrol.LinksFull max) = Some (refusals.LinksFull max)
+enrol_told fac node (enrol.CountSpent need left) = Some (refusals.CountSpent need left)
+enrol_told fac node (enrol.Lower e) = allocate_told fac node e
 
 -- what `send` refused at a rank
 abbrev pub send_told : Plan → ℕ → SendError → Option Refusal

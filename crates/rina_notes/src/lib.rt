@@ -18,8 +18,8 @@ pub use label_note::{ends_at, state_at, tell_labels};
 pub use line::Line;
 pub use note::{refused, tell, tick_of};
 pub use refusal::{
-    tell_allocate, tell_app_send, tell_free, tell_publish, tell_register, tell_unregister,
-    tell_wire,
+    tell_allocate, tell_app_send, tell_enrol, tell_free, tell_publish, tell_register,
+    tell_unregister, tell_wire,
 };
 pub use site::{Site, find_dif_site, find_site};
 pub use state::{tell_drawn, tell_member, tell_port, tell_state};

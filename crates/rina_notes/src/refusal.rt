@@ -1,10 +1,11 @@
 //! What a call refused, as a note shows it.
 ghost use Rattle.std.specs.Prelude.{◌≡◌, true, IfOk, OnErr};
-ghost use Rattle.rina_notes.specs.Copying.{copies_allocate, copies_app, copies_send};
-ghost use Rattle.rina_notes.specs.Told.{app_told, publish_told, register_told, unregister_told, free_told, allocate_told, send_told, wire_told};
+ghost use Rattle.rina_notes.specs.Copying.{copies_allocate, copies_app, copies_enrol, copies_send};
+ghost use Rattle.rina_notes.specs.Told.{app_told, enrol_told, publish_told, register_told, unregister_told, free_told, allocate_told, send_told, wire_told};
 
 use crate::state::{tell_drawn, tell_fail};
 use rina_base::{Memory, Name};
+use rina_dif::EnrolError;
 use rina_iface::{AllocateError, FreeError, RegisterError, SendError, UnregisterError};
 use rina_report::{PortNote, Refusal};
 use rina_stack::Plan;
@@ -137,6 +138,28 @@ fn allocate_refusal(
         }
         AllocateError::CountSpent { need, left } => Ok(Some(Refusal::CountSpent { need, left })),
         AllocateError::Unbuilt => Ok(Some(Refusal::Unbuilt)),
+    }
+}
+
+/// What `enrol` refused at a facility below and a node of these names.
+pub fn tell_enrol(
+    alloc: Global,
+    fac: &Name,
+    node: &Name,
+    error: EnrolError,
+) -> Result<Option<Refusal>, Memory>
+    ensures told { IfOk result (λ o. o ≡ enrol_told fac.now node.now error) }
+    ensures memory { OnErr result (copies_enrol error ≡ true) }
+{
+    match error {
+        EnrolError::Memory => Ok(None),
+        EnrolError::NoIpc => Ok(Some(Refusal::NoIpc)),
+        EnrolError::Enrolling { link } => Ok(Some(Refusal::Enrolling {
+            link: u32::from(link),
+        })),
+        EnrolError::LinksFull { max } => Ok(Some(Refusal::LinksFull { max })),
+        EnrolError::CountSpent { need, left } => Ok(Some(Refusal::CountSpent { need, left })),
+        EnrolError::Lower(error) => allocate_refusal(alloc, fac, node, error),
     }
 }
 

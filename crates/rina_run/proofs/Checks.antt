@@ -16,7 +16,7 @@ use Rattle.rina_report.specs.declared.note.Fault.TheVariants as faults
 use Rattle.rina_table.specs.declared.error.StackError.{StackError}
 use Rattle.rina_table.specs.declared.error.StackError.TheVariants as stack
 use Rattle.rina_tower.specs.declared.tower.Tower.{Tower}
-use Rattle.rina_words.specs.Built.{event_at}
+use Rattle.rina_schedule.specs.Line.{line_at}
 use Rattle.rina_run.specs.declared.check.Checked.TheVariants as checks
 use Rattle.rina_run.specs.declared.lines.BadLine.{BadLine}
 use Rattle.rina_run.specs.declared.outcome.Status.{Status}
@@ -55,8 +55,8 @@ all_one : (P : List ℕ → Type 0) (l : List ℕ) → P l → All P (l ∷ [])
 all_one P l p zero d lt = p
 all_one P l p (suc k) d lt = absurd (omega (arith, lt))
 
-count_more : (ls : List (List ℕ)) (l : List ℕ) (holds : Bool) → is_event (event_at l) ≡ holds → event_count (ls ++ l ∷ []) ≡ event_count ls + cond holds 1 0
-count_more ls l holds is = sum_by-append (λ (k : List ℕ). cond (is_event (event_at k)) 1 0) ls (l ∷ []) ∙ rw is (omega arith)
+count_more : (ls : List (List ℕ)) (l : List ℕ) (holds : Bool) → is_event (line_at l) ≡ holds → event_count (ls ++ l ∷ []) ≡ event_count ls + cond holds 1 0
+count_more ls l holds is = sum_by-append (λ (k : List ℕ). cond (is_event (line_at k)) 1 0) ls (l ∷ []) ∙ rw is (omega arith)
 
 few_more : (events after number : ℕ) (holds : Bool) → events ≤ number → after ≡ events + cond holds 1 0 → after ≤ number + 1
 few_more events after number true few e = omega (arith, few, e)
@@ -66,7 +66,7 @@ few_more events after number false few e = omega (arith, few, e)
 pub checked_on : (left left' left2 : Option (List ℕ)) (r r' r2 : Reader) (line text : List ℕ) (holds : Bool) (number events events' : ℕ) → (s : CheckedSoFar left left' r r' number events) → ReadSoFar left left2 r r2 (s.lines ++ line ∷ []) → text ≡ without_terminator line → IsReadAs text (Ok holds) → events' ≡ events + cond holds 1 0 → CheckedSoFar left left2 r r2 (number + 1) events'
 checked_on left left' left2 r r' r2 line text holds number events events' s read text_is reads is =
     let texts : texts_of (s.lines ++ line ∷ []) ≡ texts_of s.lines ++ text ∷ [] = map-append without_terminator s.lines (line ∷ []) ∙ ap (λ (t : List ℕ). texts_of s.lines ++ t ∷ []) (sym text_is) in
-    let event : is_event (event_at text) ≡ holds = ap is_event reads.1 ∙ sym reads.2 in
+    let event : is_event (line_at text) ≡ holds = ap is_event reads.1 ∙ sym reads.2 in
     record {
       lines = s.lines ++ line ∷ [];
       read = read;
@@ -77,7 +77,7 @@ checked_on left left' left2 r r' r2 line text holds number events events' s read
     }
 
 -- the next line is outside the grammar
-pub first_bad : (ls : List (List ℕ)) (line text : List ℕ) (number : ℕ) (e : LineError) → number ≡ length ls → text ≡ without_terminator line → All IsRead (texts_of ls) → event_at text ≡ Err e → IsFirstBad (texts_of (ls ++ line ∷ [])) (record { number = number + 1; error = e })
+pub first_bad : (ls : List (List ℕ)) (line text : List ℕ) (number : ℕ) (e : LineError) → number ≡ length ls → text ≡ without_terminator line → All IsRead (texts_of ls) → line_at text ≡ Err e → IsFirstBad (texts_of (ls ++ line ∷ [])) (record { number = number + 1; error = e })
 first_bad ls line text number e number_is text_is so_far read = record {
   before = texts_of ls;
   line = without_terminator line;

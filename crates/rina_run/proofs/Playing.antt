@@ -9,7 +9,7 @@ use Rattle.rina_schedule.specs.declared.event.Event.{Event}
 use Rattle.rina_stack.specs.declared.plan.Plan.{Plan}
 use Rattle.rina_run.specs.declared.output.Stop.{Stop}
 use Rattle.rina_run.specs.declared.output.Stop.TheVariants as stops
-use Rattle.rina_words.specs.Built.{event_at}
+use Rattle.rina_schedule.specs.Line.{line_at}
 use Rattle.rina_notes.specs.Look.{Leads, Extends}
 use Rattle.rina_words.specs.Step.{Stage, Steps}
 use Rattle.rina_io.specs.Reader.{Reader}
@@ -38,13 +38,13 @@ all_ran : (plan : Plan) (w : Stage) (lines : List (List ℕ)) (told : List Note)
 all_ran plan w lines told u runs = record { count = length lines; most = omega arith; runs = rw (take_all (length lines) lines (omega arith)) runs; asks = λ line at. absurd (none_behind lines line at) }
 
 -- the line of this number follows those that were run
-runs_more : (plan : Plan) (number : ℕ) (w u v : Stage) (ls : List (List ℕ)) (l : List ℕ) (ns more : List Note) → Runs plan number w ls ns u → LineDoes plan (number + length ls) (event_at l) u more v → Runs plan number w (ls ++ l ∷ []) (ns ++ more) v
+runs_more : (plan : Plan) (number : ℕ) (w u v : Stage) (ls : List (List ℕ)) (l : List ℕ) (ns more : List Note) → Runs plan number w ls ns u → LineDoes plan (number + length ls) (line_at l) u more v → Runs plan number w (ls ++ l ∷ []) (ns ++ more) v
 runs_more plan number w u v [] l ns more p q =
-    let here : LineDoes plan number (event_at l) u more v = rw (add-zero number) at q in
-    let once : LineDoes plan number (event_at l) w more v = rw (sym p.1) here in
+    let here : LineDoes plan number (line_at l) u more v = rw (add-zero number) at q in
+    let once : LineDoes plan number (line_at l) w more v = rw (sym p.1) here in
     (v, more, [], once, (refl, refl), ap (λ (ms : List Note). ms ++ more) p.0 ∙ sym (append-nil more))
 runs_more plan number w u v (k ∷ ls) l ns more (mid, first, rest, does, others, is) q =
-    let next : LineDoes plan ((number + 1) + length ls) (event_at l) u more v = subst (λ (n : ℕ). LineDoes plan n (event_at l) u more v) (omega arith) q in
+    let next : LineDoes plan ((number + 1) + length ls) (line_at l) u more v = subst (λ (n : ℕ). LineDoes plan n (line_at l) u more v) (omega arith) q in
     (mid, first, rest ++ more, does, runs_more plan (number + 1) mid u v ls l rest more others next, ap (λ (ms : List Note). ms ++ more) is ∙ append_assoc first rest more)
 
 abbrev texts_of : List (List ℕ) → List (List ℕ)
@@ -64,16 +64,16 @@ pub none_played : (left : Option (List ℕ)) (r : Reader) (plan : Plan) (s s' : 
 none_played left r plan s s' trace none same = record { lines = []; read = none_so_far left r; runs = (none, same); number = refl }
 
 -- what the next line does, by its text
-runs_line : (plan : Plan) (w u v : Stage) (ls : List (List ℕ)) (line text : List ℕ) (number : ℕ) (ns after : List Note) → number ≡ length ls → text ≡ without_terminator line → Runs plan 1 w (texts_of ls) ns u → Leads (λ ms. LineDoes plan (number + 1) (event_at text) u ms v) ns after → Runs plan 1 w (texts_of (ls ++ line ∷ [])) after v
+runs_line : (plan : Plan) (w u v : Stage) (ls : List (List ℕ)) (line text : List ℕ) (number : ℕ) (ns after : List Note) → number ≡ length ls → text ≡ without_terminator line → Runs plan 1 w (texts_of ls) ns u → Leads (λ ms. LineDoes plan (number + 1) (line_at text) u ms v) ns after → Runs plan 1 w (texts_of (ls ++ line ∷ [])) after v
 runs_line plan w u v ls line text number ns after number_is text_is runs p =
     let at : number + 1 ≡ 1 + length (texts_of ls) = omega (arith, number_is, length-map ls without_terminator) in
-    let does : LineDoes plan (1 + length (texts_of ls)) (event_at text) u p.notes v = subst (λ (n : ℕ). LineDoes plan n (event_at text) u p.notes v) at p.holds in
-    let does' : LineDoes plan (1 + length (texts_of ls)) (event_at (without_terminator line)) u p.notes v = subst (λ (l : List ℕ). LineDoes plan (1 + length (texts_of ls)) (event_at l) u p.notes v) text_is does in
+    let does : LineDoes plan (1 + length (texts_of ls)) (line_at text) u p.notes v = subst (λ (n : ℕ). LineDoes plan n (line_at text) u p.notes v) at p.holds in
+    let does' : LineDoes plan (1 + length (texts_of ls)) (line_at (without_terminator line)) u p.notes v = subst (λ (l : List ℕ). LineDoes plan (1 + length (texts_of ls)) (line_at l) u p.notes v) text_is does in
     rw (texts_more ls line, p.trace) (runs_more plan 1 w u v (texts_of ls) (without_terminator line) ns p.notes runs does')
 
 -- one more line was run
 pub line_on : (left left' left2 : Option (List ℕ)) (r r' r2 : Reader) (plan : Plan) (w u v : Stage) (line text : List ℕ) (number : ℕ) (ns after : List Note) → (p : PlayedSoFar left left' r r' plan w ns u number) → ReadSoFar left left2 r r2 (p.lines ++ line ∷ []) → text ≡ without_terminator line
-    → Leads (λ ms. LineDoes plan (number + 1) (event_at text) u ms v) ns after → PlayedSoFar left left2 r r2 plan w after v (number + 1)
+    → Leads (λ ms. LineDoes plan (number + 1) (line_at text) u ms v) ns after → PlayedSoFar left left2 r r2 plan w after v (number + 1)
 line_on left left' left2 r r' r2 plan w u v line text number ns after p read text_is leads = record {
   lines = p.lines ++ line ∷ [];
   read = read;
@@ -92,16 +92,16 @@ stops_at plan w u v ls line text number e ns after number_is text_is runs bad = 
   runs = rw (bad.same, bad.trace) runs;
 }
 
-asks_event : (line : List ℕ) (event : Event) → event_at line ≡ Ok (Some event) → Asks line
+asks_event : (line : List ℕ) (event : Event) → line_at line ≡ Ok (Some event) → Asks line
 asks_event line event is = λ none. (let same : Ok (Some event) ≡ Ok None = sym is ∙ none in cc)
 
 -- what a line asks for stopped
-pub stopped_line : (plan : Plan) (number : ℕ) (line : List ℕ) (event : Event) (s s' : Stage) (old new : List Note) (e : Stop) → event_at line ≡ Ok (Some event) → Ran {A = Unit {0}} (λ ns. Steps plan number event s ns s') old new (Err e) → LineRan plan number line s old s' new (Err e)
+pub stopped_line : (plan : Plan) (number : ℕ) (line : List ℕ) (event : Event) (s s' : Stage) (old new : List Note) (e : Stop) → line_at line ≡ Ok (Some event) → Ran {A = Unit {0}} (λ ns. Steps plan number event s ns s') old new (Err e) → LineRan plan number line s old s' new (Err e)
 stopped_line plan number line event s s' old new stops.Memory is ran = (asks_event line event is, rw is ran)
 stopped_line plan number line event s s' old new stops.WriteFault is ran = rw is ran
 
 -- memory was not found in the next line, which told nothing or all of its notes
-memory_in : (plan : Plan) (w u v : Stage) (ls : List (List ℕ)) (line text : List ℕ) (number : ℕ) (ns after : List Note) → number ≡ length ls → text ≡ without_terminator line → Runs plan 1 w (texts_of ls) ns u → Asks text → (after ≡ ns) ⊎ Leads (λ ms. LineDoes plan (number + 1) (event_at text) u ms v) ns after → (reached : Stage) × RanFirst plan w (texts_of (ls ++ line ∷ [])) after reached
+memory_in : (plan : Plan) (w u v : Stage) (ls : List (List ℕ)) (line text : List ℕ) (number : ℕ) (ns after : List Note) → number ≡ length ls → text ≡ without_terminator line → Runs plan 1 w (texts_of ls) ns u → Asks text → (after ≡ ns) ⊎ Leads (λ ms. LineDoes plan (number + 1) (line_at text) u ms v) ns after → (reached : Stage) × RanFirst plan w (texts_of (ls ++ line ∷ [])) after reached
 memory_in plan w u v ls line text number ns after number_is text_is runs asks (inl same) =
     let front : take (length (texts_of ls)) (texts_of (ls ++ line ∷ [])) ≡ texts_of ls = ap (take (length (texts_of ls))) (texts_more ls line) ∙ take-append_seam (texts_of ls) (without_terminator line ∷ []) in
     let most : length (texts_of (ls ++ line ∷ [])) ≤ length (texts_of ls) + 1 = omega (arith, ap length (texts_more ls line), length-append (texts_of ls) (without_terminator line ∷ [])) in

@@ -9,7 +9,7 @@ use Rattle.rina_schedule.specs.declared.event.Event.{Event}
 use Rattle.rina_stack.specs.declared.plan.Plan.{Plan}
 use Rattle.rina_stack.specs.Stack.{Reads}
 use Rattle.rina_table.specs.declared.error.StackError.{StackError}
-use Rattle.rina_words.specs.Built.{event_at}
+use Rattle.rina_schedule.specs.Line.{line_at}
 use Rattle.rina_run.specs.declared.check.Checked.{Checked}
 use Rattle.rina_run.specs.declared.check.Checked.TheVariants as checks
 use Rattle.rina_run.specs.declared.lines.BadLine.{BadLine}
@@ -21,7 +21,7 @@ use Rattle.rina_run.specs.Top.{ClosedBy, IsStackAlone, fault_of, stack_fault, st
 
 -- the line is inside the grammar: it holds an event, or is blank or a comment
 abbrev pub IsRead : List ℕ → Type 0
-IsRead line = (event : Option Event) × (event_at line ≡ Ok event)
+IsRead line = (event : Option Event) × (line_at line ≡ Ok event)
 
 -- whether what was read is an event
 abbrev pub is_event : Result (Option Event) LineError → Bool
@@ -30,7 +30,7 @@ is_event (Err e) = false
 
 -- how many lines hold an event
 abbrev pub event_count : List (List ℕ) → ℕ
-event_count lines = count_by (λ l. is_event (event_at l)) lines
+event_count lines = count_by (λ l. is_event (line_at l)) lines
 
 -- the last of the lines is the first outside the grammar
 pub record IsFirstBad (lines : List (List ℕ)) (bad : BadLine) : Type 0 where
@@ -38,7 +38,7 @@ pub record IsFirstBad (lines : List (List ℕ)) (bad : BadLine) : Type 0 where
   pub line : List ℕ
   pub are : lines ≡ before ++ line ∷ []
   pub number : bad.number ≡ length lines
-  pub read : event_at line ≡ Err bad.error
+  pub read : line_at line ≡ Err bad.error
   pub earlier : All IsRead before
 
 -- the counts of an input
@@ -82,8 +82,8 @@ pub record CheckOutcomes (known : List ℕ → Bool) (ending : Ending) (script :
 
 -- what is known after a line was read: whether it holds an event, or its error
 abbrev pub IsReadAs : List ℕ → Result Bool LineError → Type 0
-IsReadAs line (Ok holds) = (event : Option Event) × (event_at line ≡ Ok event) × (holds ≡ is_some event)
-IsReadAs line (Err e) = event_at line ≡ Err e
+IsReadAs line (Ok holds) = (event : Option Event) × (line_at line ≡ Ok event) × (holds ≡ is_some event)
+IsReadAs line (Err e) = line_at line ≡ Err e
 
 -- what is known after lines were read, by how reading them ended
 abbrev pub AreReadAs : Ending → List (List ℕ) → Checked → Type 0

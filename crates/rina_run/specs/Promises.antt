@@ -80,7 +80,7 @@ WriteOffsAll = OfEachDif IsWrittenOffIn
 
 -- the next hop of each IPC process to each other member is the least number of a link on a least walk, over its links that are up, with known
 -- neighbours, and the edges that both ends claim in the items of its management. In a static DIF those links are its live ones: those of the plan,
--- and behind them those that enrolments made, of which there are none yet
+-- and behind them those that enrolments made
 abbrev pub IsRoutedIn : Dif → Seen → Type 0
 IsRoutedIn d below = HaveRoutes d.laid.is_static d.settings.members d.laid.links d.processes d.managements
 
@@ -89,7 +89,7 @@ RoutesAll = OfEachDif IsRoutedIn
 
 -- the management of each member knows the links of its IPC process: it has one for each that is live, and its items claim from its own
 -- address those that are up, with known neighbours, and no others, which in a static DIF are the live ones: those of the plan, and behind them
--- those that enrolments made, of which there are none yet; and the next hops of the IPC process are over the items that its management holds
+-- those that enrolments made; and the next hops of the IPC process are over the items that its management holds
 abbrev pub IsManagedIn : Dif → Seen → Type 0
 IsManagedIn d below = AreManaged d
 

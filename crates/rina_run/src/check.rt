@@ -18,9 +18,8 @@ use crate::reading::{Head, Next, next_line, plan_of, read_stack};
 use rina_base::{Memory, Seq};
 use rina_io::{LineReader, Sink, Source, without_end};
 use rina_report::{Fault, Note};
-use rina_schedule::LineError;
+use rina_schedule::{LineError, read_line};
 use rina_stack::{Plan, Policies, StackError};
-use rina_words::read_event;
 use std::alloc::Global;
 
 /// What reading the lines of a schedule gives.
@@ -39,7 +38,7 @@ fn read_one(alloc: Global, line: &[u8]) -> Result<Result<bool, LineError>, Memor
     ensures read { IfOk result (IsReadAs line.now) }
     ensures memory { OnErr result (Asks line.now) }
 {
-    match read_event(alloc, line) {
+    match read_line(alloc, line) {
         Ok(event) => Ok(Ok(event.is_some())),
         Err(LineError::Memory) => Err(Memory),
         Err(error) => Ok(Err(error)),

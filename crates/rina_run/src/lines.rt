@@ -6,7 +6,6 @@ ghost use Rattle.rina_io.specs.Reader.{size};
 ghost use Rattle.rina_report.specs.Notes.{text_of};
 ghost use Rattle.rina_stack.specs.Plan.{IsPlan};
 ghost use Rattle.rina_tower.specs.Stands.{IsTower};
-ghost use Rattle.rina_words.specs.Built.{is_built};
 ghost use Rattle.rina_run.specs.Top.{status_stopped};
 ghost use Rattle.rina_run.specs.Written.{Written};
 ghost use Rattle.rina_words.specs.Step.{HasNames, Steps, stage};
@@ -21,9 +20,9 @@ use rina_io::{LineReader, Sink, Source, without_end};
 use rina_notes::Line;
 use rina_policy::Retires;
 use rina_report::{Fault, Notes};
-use rina_schedule::{Event, LineError};
+use rina_schedule::{Event, LineError, read_line};
 use rina_stack::Plan;
-use rina_words::{Run, read_event, step};
+use rina_words::{Run, step};
 use std::alloc::Global;
 use std::mem;
 
@@ -47,7 +46,6 @@ fn run_event<K: Sink, P: Retires>(
     trace: &mut Notes,
 ) -> Result<(), Stop>
     requires plan { IsPlan line.now.plan.now }
-    requires built { is_built event.now ≡ true }
     requires sound { IsTower run.old.tower }
     ensures does { Ran (λ ns. Steps line.now.plan.now line.now.number event.now (stage run.old (P.slots shelf.old)) ns (stage run.new (P.slots shelf.new))) trace.old trace.new result }
     ensures ok { OnOk result ((base : Option (List ℕ)) → Appends base (K.took out.old) (text_of trace.old) → Appends base (K.took out.new) (text_of trace.new)) }
@@ -86,7 +84,7 @@ fn run_line<K: Sink, P: Retires>(
     ensures sound { IsTower run.new.tower }
     ensures names { HasNames (P.slots shelf.old) (P.slots shelf.new) }
 {
-    match read_event(line.alloc, text) {
+    match read_line(line.alloc, text) {
         Ok(Some(event)) => {
             run_event(line, run, shelf, &event, out, trace)?;
             Ok(None)

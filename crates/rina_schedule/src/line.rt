@@ -1,5 +1,5 @@
 //! Reading a line of a schedule.
-ghost use Rattle.std.specs.Prelude.{◌≡◌, true, IfErr, IsOk};
+ghost use Rattle.std.specs.Prelude.{◌≡◌, ◌≢◌, true, None, Ok, IfErr, IsOk};
 ghost use Rattle.std.specs.Str.{bytes_eq};
 ghost use Rattle.rina_schedule.specs.Gives.{Gives};
 ghost use Rattle.rina_schedule.specs.Fields.{field_at};
@@ -126,6 +126,8 @@ pub fn read_line(alloc: Global, text: &[u8]) -> Result<Option<Event>, LineError>
     ensures memory { IfErr result (λ e. e ≡ LineError.Memory → HasOperand text.now) }
     // Behind `tick` and `round`, and behind a word that the grammar does not have, nothing is copied.
     ensures copies { IfErr result (λ e. e ≡ LineError.Memory → HasCopyingWord text.now) }
+    // So a line that asks for nothing never fails with `Memory`.
+    ensures asks { IfErr result (λ e. e ≡ LineError.Memory → line_at text.now ≢ Ok None) }
 {
     let Some((word, rest)) = next_field(text) else {
         return Ok(None);

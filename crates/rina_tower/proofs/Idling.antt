@@ -1,10 +1,12 @@
 -- A round of a tower that rests does nothing.
-use Rattle.std.proofs.Common.{◌≡◌, ◌∙◌, ℕ, ◌+◌, ◌<◌, true, false, List, [], ◌∷◌, slice_get, Option, Some, None, Result, Ok, Err, refl, sym, arith, inl, inr}
+use Rattle.std.proofs.Common.{◌≡◌, ◌∙◌, ℕ, ◌+◌, ◌<◌, true, false, List, [], ◌∷◌, slice_get, Option, Some, None, Result, Ok, Err, refl, sym, ap, arith, inl, inr}
 use Rattle.std.proofs.lemmas.Bool.{cases_eq}
 use Rattle.rina_base.specs.declared.number.Num.{Num}
 use Rattle.rina_base.specs.declared.number.Port.{Port}
+use Rattle.rina_iface.specs.declared.error.FreeError.{FreeError}
 use Rattle.rina_iface.specs.declared.error.SendError.{SendError}
-use Rattle.rina_iface.specs.Seen.{Seen}
+use Rattle.rina_iface.specs.Claim.{NoneWaits as NoneWaitsFor}
+use Rattle.rina_iface.specs.Seen.{Fac, Seen, oldest_in}
 use Rattle.rina_iface.specs.Free.{FreesAsSeen}
 use Rattle.rina_iface.specs.Send.{SendsAsSeen}
 use Rattle.rina_iface.proofs.Changed.{slice_set-same}
@@ -21,33 +23,33 @@ use Rattle.rina_data.specs.Configs.{config_of}
 use Rattle.rina_data.specs.Lower.{PassesBelow, SendsBelow}
 use Rattle.rina_data.specs.Outgoing.{IsHeld}
 use Rattle.rina_dif.specs.declared.dif.Dif.{Dif}
+use Rattle.rina_dif.specs.Claiming.{NoneComesAt}
 use Rattle.rina_dif.specs.Elsewhere.{ChangesOnly, home_of}
 use Rattle.rina_dif.specs.Holding.{Stands}
+use Rattle.rina_dif.specs.Lower.{ClocksBelow}
 use Rattle.rina_dif.specs.Resting.{RestsUntil as DifRests}
 use Rattle.rina_dif.proofs.Beside.{no_step}
 use Rattle.rina_dif.proofs.Elsewhere.{flows_none, none_process}
-use Rattle.rina_dif.proofs.FlowIds.{TellsFlow}
-use Rattle.rina_dif.proofs.GivenUp.{frees_none}
 use Rattle.rina_dif.proofs.Rested.{DoesNone, SendsNone, TakesNone, clock_rests, in_rests, none_fails, out_rests}
 use Rattle.rina_tower.specs.declared.places.LinkPlace.{LinkPlace}
 use Rattle.rina_tower.specs.declared.places.MemberPlace.{MemberPlace}
 use Rattle.rina_tower.specs.declared.tower.Tower.{Tower, Rank', Wires}
-use Rattle.rina_tower.specs.Calls.{FreesWhole, SendsWhole}
+use Rattle.rina_tower.specs.Calls.{ClaimsAtTop, FreesWhole, SendsWhole}
 use Rattle.rina_tower.specs.Levels.{AtDif, same_refl}
 use Rattle.rina_tower.specs.Ranks.{height_of, now_of, seen_now, seen_of}
 use Rattle.rina_tower.specs.Refusals.{frees_both, refuses_send}
-use Rattle.rina_tower.specs.Resting.{AreResting, RestsUntil}
+use Rattle.rina_tower.specs.Resting.{AreResting, NoneWaits, RestsUntil}
 use Rattle.rina_tower.specs.Rounds.{AllClockSteps, AllInSteps, AllMove, AllOutSteps, Anything, ClockMove, InMove, InTurn, IsRound, IsUntil, Move, Moves, OutMove, has_left, has_taken, leaves_no_more, links_downward, links_upward, members_upward, none_due, takes_no_more, was_due}
 use Rattle.rina_tower.specs.Stands.{IsTower}
 use Rattle.rina_tower.specs.StepEffect.{StandsAfter}
-use Rattle.rina_tower.specs.Steps.{ClocksAt, ClocksOne, InSteps, OutSteps, SendsOne, TakesOne}
+use Rattle.rina_tower.specs.Steps.{ClocksAt, ClocksOne, InSteps, OutSteps, SendsOne, TakesOne, claimant}
 
 -- One DIF
 
 stands_on : (d : Dif) (below : Seen) → Stands d below → StandsAfter below below d d
 stands_on d below st = (let none = no_step d below st in record {
   stands = st;
-  uses = inl refl;
+  uses = record { mid = below; claims = inl refl; uses = inl refl };
   goes_on = none.goes_on;
   silent = none.silent;
   waiting = refl;
@@ -59,12 +61,20 @@ stands_on d below st = (let none = no_step d below st in record {
 leaves_all : (Ends : ℕ → Type 0) (o : Option ℕ) (d : Dif) → ChangesOnly Ends o d d
 leaves_all Ends o d = (flows_none Ends d.flows d.flows refl, none_process o d.processes d.processes refl)
 
-module _ (until : ℕ) (d : Dif) (below : Seen) (st : Stands d below) (before : d.clock < until) (rest : DifRests until d below) (node link : ℕ) where
+-- no far end waits for its member
+none_comes : (d : Dif) (below : Seen) (node : ℕ) → NoneWaits below → NoneComesAt d below node
+none_comes d below node none i member may n lt = none_by (slice_get below.facs n) refl
+  where
+    none_by : (o : Option Fac) → slice_get below.facs n ≡ o → NoneWaitsFor o node member.name
+    none_by None is = tt
+    none_by (Some f) is = ap (λ (ws : List ℕ). oldest_in f.ends ws node member.name) (none n f is)
+
+module _ (until : ℕ) (d : Dif) (below : Seen) (st : Stands d below) (before : d.clock < until) (rest : DifRests until d below) (claimed : NoneWaits below) (node link : ℕ) where
   takes_one : (a : Result InStep StepError) × TakesNone a × TakesOne below node link a below d d
   takes_one = (let a = in_rests until d below node link rest in (a.0, a.1, record { does = a.2; after = stands_on d below st; rest = refl; leaves = leaves_all _ _ d }))
 
   clocks_one : (a : Result ClockStep StepError) × DoesNone a × ClocksOne below node a below d d
-  clocks_one = (let a = clock_rests until d below node before rest in (a.0, a.1, record { does = a.2; fails = λ lines h. none_fails d lines below; after = stands_on d below st; rest = refl; leaves = leaves_all _ _ d }))
+  clocks_one = (let a = clock_rests until d below node before rest (none_comes d below node claimed) in (a.0, a.1, record { does = a.2; fails = λ lines h. none_fails d lines below; after = stands_on d below st; rest = refl; leaves = leaves_all _ _ d }))
 
   sends_one : (refuses : Port → ℕ → Option SendError) → (a : Result OutStep StepError) × SendsNone a × ((slots : List Slot) → SendsOne refuses Anything slots slots below node link a below d d)
   sends_one refuses =
@@ -91,7 +101,7 @@ at_dif does n none difs d is done = inl (record { dif = d; dif' = d; is_dif = is
 no_dif : (does : Dif → Dif → Type 0) (n : ℕ) (none : Type 0) (difs : List Dif) → slice_get difs n ≡ None → none → AtDif n does none difs difs
 no_dif does n none difs is done = inr (is, done, refl)
 
-module _ (until : ℕ) (p : _) (difs : List Dif) (below : Tower) (v : IsTower (Rank' p difs below)) (before : now_of below < until) (rest : AreResting until difs (seen_of below)) (dif node link : ℕ) where
+module _ (until : ℕ) (p : _) (difs : List Dif) (below : Tower) (v : IsTower (Rank' p difs below)) (before : now_of below < until) (rest : AreResting until difs (seen_of below)) (claimed : NoneWaits (seen_of below)) (dif node link : ℕ) where
   its_clock : (d : Dif) → slice_get difs dif ≡ Some d → d.clock < until
   its_clock d is =
       let clock = (v.0.standing.stand dif d is).1.standing.clock in
@@ -99,15 +109,15 @@ module _ (until : ℕ) (p : _) (difs : List Dif) (below : Tower) (v : IsTower (R
       omega (arith, clock, now, before)
 
   in_difs : (o : Option Dif) → slice_get difs dif ≡ o → (a : Result InStep StepError) × TakesNone a × AtDif dif (TakesOne (seen_of below) node link a (seen_of below)) ((a ≡ Err NoIpc) × (below ≡ below)) difs difs
-  in_difs (Some d) is = (let a = takes_one until d (seen_of below) (v.0.standing.stand dif d is) (its_clock d is) (rest dif d is) node link in (a.0, a.1, at_dif _ dif _ difs d is a.2))
+  in_difs (Some d) is = (let a = takes_one until d (seen_of below) (v.0.standing.stand dif d is) (its_clock d is) (rest dif d is) claimed node link in (a.0, a.1, at_dif _ dif _ difs d is a.2))
   in_difs None is = (Err NoIpc, tt, no_dif _ dif _ difs is (refl, refl))
 
   clock_difs : (o : Option Dif) → slice_get difs dif ≡ o → (a : Result ClockStep StepError) × DoesNone a × AtDif dif (ClocksOne (seen_of below) node a (seen_of below)) ((a ≡ Err NoIpc) × (below ≡ below)) difs difs
-  clock_difs (Some d) is = (let a = clocks_one until d (seen_of below) (v.0.standing.stand dif d is) (its_clock d is) (rest dif d is) node link in (a.0, a.1, at_dif _ dif _ difs d is a.2))
+  clock_difs (Some d) is = (let a = clocks_one until d (seen_of below) (v.0.standing.stand dif d is) (its_clock d is) (rest dif d is) claimed node link in (a.0, a.1, at_dif _ dif _ difs d is a.2))
   clock_difs None is = (Err NoIpc, tt, no_dif _ dif _ difs is (refl, refl))
 
   out_difs : (o : Option Dif) → slice_get difs dif ≡ o → (a : Result OutStep StepError) × SendsNone a × ((slots : List Slot) → AtDif dif (SendsOne (refuses_send below) Anything slots slots (seen_of below) node link a (seen_of below)) ((a ≡ Err NoIpc) × (slots ≡ slots) × (below ≡ below)) difs difs)
-  out_difs (Some d) is = (let a = sends_one until d (seen_of below) (v.0.standing.stand dif d is) (its_clock d is) (rest dif d is) node link (refuses_send below) in (a.0, a.1, λ slots. at_dif _ dif _ difs d is (a.2 slots)))
+  out_difs (Some d) is = (let a = sends_one until d (seen_of below) (v.0.standing.stand dif d is) (its_clock d is) (rest dif d is) claimed node link (refuses_send below) in (a.0, a.1, λ slots. at_dif _ dif _ difs d is (a.2 slots)))
   out_difs None is = (Err NoIpc, tt, λ slots. no_dif _ dif _ difs is (refl, refl, refl))
 
 -- Any rank
@@ -115,28 +125,28 @@ module _ (until : ℕ) (p : _) (difs : List Dif) (below : Tower) (v : IsTower (R
 in_tower : (until : ℕ) (t : Tower) → IsTower t → now_of t < until → RestsUntil until t → (r dif node link : ℕ) → (a : Result InStep StepError) × TakesNone a × InSteps r dif node link a t t
 in_tower until (Wires a) v before rest r dif node link = elim (cases_eq r 0) [ inl e ↦ (Err NoIpc, tt, inl (e, (refl, refl))) | inr ne ↦ (Err NoIpc, tt, inr (ne, refl, refl)) ]
 in_tower until (Rank' p difs below) v before rest r dif node link = elim (cases_eq r (height_of below + 1)) [
-  | inl e ↦ (let a = in_difs until p difs below v before rest.0 dif node link (slice_get difs dif) refl in (a.0, a.1, inl (e, (a.2, same_refl below, in_same _ _ a.0 a.1 refl))))
-  | inr ne ↦ (let a = in_tower until below v.1 before rest.1 r dif node link in (a.0, a.1, inr (ne, refl, a.2)))
+  | inl e ↦ (let a = in_difs until p difs below v before rest.0 rest.1 dif node link (slice_get difs dif) refl in (a.0, a.1, inl (e, (a.2, same_refl below, in_same _ _ a.0 a.1 refl))))
+  | inr ne ↦ (let a = in_tower until below v.1 before rest.2 r dif node link in (a.0, a.1, inr (ne, refl, a.2)))
 ]
 
--- what tells that nothing was done tells no number that was given up
-tells_none : (a : Result ClockStep StepError) → DoesNone a → TellsFlow a
-tells_none (Ok clocks.Idle) d = tt
-tells_none (Err e) d = tt
-tells_none answer d = absurd d
+-- where nothing was done, nothing was done below either
+clocks_none : (claims : Tower → ℕ → Option Port → Tower → Type 0) (frees : Tower → Tower → Port → Result (Unit {0}) FreeError → Type 0) (t : Tower) (a : Result ClockStep StepError) → DoesNone a → ClocksBelow claims frees t a t
+clocks_none claims frees t (Ok clocks.Idle) none = record { mid = t; asked = (None, (0, refl)); does = refl }
+clocks_none claims frees t (Err NoIpc) none = refl
+clocks_none claims frees t a none = absurd none
 
 clock_tower : (until : ℕ) (t : Tower) → IsTower t → now_of t < until → RestsUntil until t → (r dif node : ℕ) → (a : Result ClockStep StepError) × DoesNone a × ClocksAt r dif node a t t
 clock_tower until (Wires a) v before rest r dif node = elim (cases_eq r 0) [ inl e ↦ (Err NoIpc, tt, inl (e, (refl, refl))) | inr ne ↦ (Err NoIpc, tt, inr (ne, refl, refl)) ]
 clock_tower until (Rank' p difs below) v before rest r dif node = elim (cases_eq r (height_of below + 1)) [
-  | inl e ↦ (let a = clock_difs until p difs below v before rest.0 dif node 0 (slice_get difs dif) refl in (a.0, a.1, inl (e, (a.2, same_refl below, frees_none (below ≡ below) (FreesAsSeen seen_of frees_both FreesWhole below below) a.0 (tells_none a.0 a.1) refl))))
-  | inr ne ↦ (let a = clock_tower until below v.1 before rest.1 r dif node in (a.0, a.1, inr (ne, refl, a.2)))
+  | inl e ↦ (let a = clock_difs until p difs below v before rest.0 rest.1 dif node 0 (slice_get difs dif) refl in (a.0, a.1, inl (e, (a.2, same_refl below, clocks_none (λ t fac answer t'. ClaimsAtTop fac node (claimant difs dif node) answer t t') (FreesAsSeen seen_of frees_both FreesWhole) below a.0 a.1))))
+  | inr ne ↦ (let a = clock_tower until below v.1 before rest.2 r dif node in (a.0, a.1, inr (ne, refl, a.2)))
 ]
 
 out_tower : (until : ℕ) (t : Tower) → IsTower t → now_of t < until → RestsUntil until t → (r dif node link : ℕ) → (a : Result OutStep StepError) × SendsNone a × ((slots : List Slot) → OutSteps Anything slots slots r dif node link a t t)
 out_tower until (Wires a) v before rest r dif node link = elim (cases_eq r 0) [ inl e ↦ (Err NoIpc, tt, λ slots. inl (e, (refl, refl, refl))) | inr ne ↦ (Err NoIpc, tt, λ slots. inr (ne, (refl, refl), refl)) ]
 out_tower until (Rank' p difs below) v before rest r dif node link = elim (cases_eq r (height_of below + 1)) [
-  | inl e ↦ (let a = out_difs until p difs below v before rest.0 dif node link (slice_get difs dif) refl in (a.0, a.1, λ slots. inl (e, (a.2 slots, same_refl below, out_same (below ≡ below) (SendsAsSeen seen_of refuses_send SendsWhole below below) a.0 a.1 refl))))
-  | inr ne ↦ (let a = out_tower until below v.1 before rest.1 r dif node link in (a.0, a.1, λ slots. inr (ne, refl, a.2 slots)))
+  | inl e ↦ (let a = out_difs until p difs below v before rest.0 rest.1 dif node link (slice_get difs dif) refl in (a.0, a.1, λ slots. inl (e, (a.2 slots, same_refl below, out_same (below ≡ below) (SendsAsSeen seen_of refuses_send SendsWhole below below) a.0 a.1 refl))))
+  | inr ne ↦ (let a = out_tower until below v.1 before rest.2 r dif node link in (a.0, a.1, λ slots. inr (ne, refl, a.2 slots)))
 ]
 
 -- Turns

@@ -24,7 +24,7 @@ clocked_after d d' below node r below' ipc st goes_on silent others settings lai
     let t = does st.0 st.1 in
     record {
       stands = (t.lines', t.holds);
-      uses = clock_uses d st.0 below node r d' t.lines' below' ipc st.1.connected t.does;
+      uses = clock_uses d below node ipc st.0 r d' t.lines' below' t.does;
       goes_on = goes_on;
       silent = silent;
       waiting = clock_waits d st.0 below node r d' t.lines' below' t.does;

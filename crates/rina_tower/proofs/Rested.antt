@@ -12,15 +12,15 @@ use Rattle.rina_dif.specs.Holding.{Holds}
 use Rattle.rina_dif.specs.Resting.{RestsUntil as DifRests}
 use Rattle.rina_dif.proofs.Moves.{holds_later}
 use Rattle.rina_dif.proofs.Rested.{rests_later}
-use Rattle.rina_wire.specs.Air.{Air}
-use Rattle.rina_wire.specs.Resting.{RestsUntil as WiresRest, at_tick as wires_at}
+use Rattle.rina_wire.specs.Air.{Air, fac_of as fac_of_line}
+use Rattle.rina_wire.specs.Resting.{NoneWaits as NoneWaitOn, RestsUntil as WiresRest, at_tick as wires_at}
 use Rattle.rina_wire.specs.Tick.{TicksOn}
 use Rattle.rina_wire.proofs.Rested.{rested_sound, rests_sooner as air_sooner, tick_rests}
 use Rattle.rina_tower.specs.declared.tower.Tower.{Tower, Rank', Wires}
 use Rattle.rina_tower.specs.Bystanders.{Anyone, Leaves, LeavesEnds}
 use Rattle.rina_tower.specs.ClockTick.{AreClocked, Ticks}
-use Rattle.rina_tower.specs.Ranks.{fac_of_dif, height_of, now_of, seen_now, seen_of}
-use Rattle.rina_tower.specs.Resting.{AreResting, IsAtTick, RestsUntil, WiresRestUntil, dif_at}
+use Rattle.rina_tower.specs.Ranks.{fac_of_dif, height_of, now_of, seen_now, seen_of, seen_of_difs}
+use Rattle.rina_tower.specs.Resting.{AreClaimed, AreResting, IsAtTick, NoneWaits, RestsUntil, WiresRestUntil, dif_at}
 use Rattle.rina_tower.specs.Stands.{AreStanding, At, IsRank, IsTower}
 use Rattle.rina_tower.proofs.Alone.{ends_alone}
 use Rattle.rina_tower.proofs.Timing.{at_index, is_clocked, rank_ticked}
@@ -127,7 +127,7 @@ ticks_at (Rank' p difs below) (Wires a') v lt rest at = absurd at
 
 pub wires_of : (until : ℕ) (t : Tower) → RestsUntil until t → WiresRestUntil until t
 wires_of until (Wires a) rest = rest
-wires_of until (Rank' p difs below) rest = wires_of until below rest.1
+wires_of until (Rank' p difs below) rest = wires_of until below rest.2
 
 pub wires_sooner : (until until' : ℕ) (t : Tower) → until' ≤ until → WiresRestUntil until t → WiresRestUntil until' t
 wires_sooner until until' (Wires a) le rest = air_sooner until until' a le rest
@@ -146,7 +146,11 @@ difs_on until now difs difs' below below' is seen rest = λ n d' at.
 
 pub rests_on : (until now : ℕ) (t t' : Tower) → IsAtTick now t t' → RestsUntil until t → RestsUntil until t'
 rests_on until now (Wires a) (Wires a') at rest = subst (λ (b : Air). WiresRest until b) (sym at) (record { alive = rest.alive; quiet = rest.quiet })
-rests_on until now (Rank' p difs below) (Rank' p' difs' below') at rest = (difs_on until now difs difs' (seen_of below) (seen_of below') at.0 (seen_at now below below' at.1) rest.0, rests_on until now below below' at.1 rest.1)
+rests_on until now (Rank' p difs below) (Rank' p' difs' below') at rest = (
+  difs_on until now difs difs' (seen_of below) (seen_of below') at.0 (seen_at now below below' at.1) rest.0,
+  (λ n f is. rest.1 n f (ap (λ (fs : List Fac). slice_get fs n) (sym (facs_at now below below' at.1)) ∙ is)),
+  rests_on until now below below' at.1 rest.2,
+)
 rests_on until now (Wires a) (Rank' p' difs' below') at rest = absurd at
 rests_on until now (Rank' p difs below) (Wires a') at rest = absurd at
 
@@ -176,7 +180,7 @@ at_again n m (Rank' p difs below) (Rank' p' difs' below') (Wires c) x y = absurd
 
 pub rests_sooner : (until until' : ℕ) (t : Tower) → until' ≤ until → RestsUntil until t → RestsUntil until' t
 rests_sooner until until' (Wires a) le rest = air_sooner until until' a le rest
-rests_sooner until until' (Rank' p difs below) le rest = (λ n d at. (let r = rest.0 n d at in record { alive = r.alive; processes = r.processes; messages = r.messages; flows = λ now lt. r.flows now (omega (arith, le, lt)); links = λ now lt. r.links now (omega (arith, le, lt)) }), rests_sooner until until' below le rest.1)
+rests_sooner until until' (Rank' p difs below) le rest = (λ n d at. (let r = rest.0 n d at in record { alive = r.alive; processes = r.processes; messages = r.messages; flows = λ now lt. r.flows now (omega (arith, le, lt)); links = λ now lt. r.links now (omega (arith, le, lt)) }), rest.1, rests_sooner until until' below le rest.2)
 
 -- The DIFs of a rank, one after the other
 
@@ -206,7 +210,17 @@ all_rest difs count until below le before after = λ n d at. (let within = slice
 
 -- A rank over a tower that rests
 
-pub rank_rests : (difs : List Dif) (below : Tower) (until quiet least : ℕ) → least ≤ until → least ≤ quiet → (now_of below < until → RestsUntil until below) → ((seen_of below).now < quiet → AreResting quiet difs (seen_of below)) → now_of below < least → AreResting least difs (seen_of below) × RestsUntil least below
-rank_rests difs below until quiet least le le' rest own after =
+pub rank_rests : (difs : List Dif) (below : Tower) (until quiet least : ℕ) → least ≤ until → least ≤ quiet → (now_of below < until → RestsUntil until below) → ((seen_of below).now < quiet → AreResting quiet difs (seen_of below)) → NoneWaits (seen_of below) → now_of below < least → AreResting least difs (seen_of below) × NoneWaits (seen_of below) × RestsUntil least below
+rank_rests difs below until quiet least le le' rest own none after =
     let now = seen_now below in
-    (difs_sooner quiet least difs (seen_of below) le' (own (omega (arith, le', after, now))), rests_sooner until least below le (rest (omega (arith, le, after))))
+    (difs_sooner quiet least difs (seen_of below) le' (own (omega (arith, le', after, now))), none, rests_sooner until least below le (rest (omega (arith, le, after))))
+
+-- Nothing waits to be claimed
+
+-- the wires show none that waits
+pub wires_claimed : (a : Air) → NoneWaitOn a.wires → NoneWaits (seen_of (Wires a))
+wires_claimed a none n f is = (let l = map_at fac_of_line a.wires n f is in ap (λ (g : Fac). g.waiting) l.2 ∙ none n l.0 l.1)
+
+-- nor do DIFs
+pub difs_claimed : (now : ℕ) (difs : List Dif) → AreClaimed difs → NoneWaits (seen_of_difs now difs)
+difs_claimed now difs none n f is = (let d = map_at fac_of_dif difs n f is in ap (λ (g : Fac). g.waiting) d.2 ∙ none n d.0 d.1)

@@ -1,6 +1,6 @@
 -- A step of a DIF uses the rank below only at a link of its own.
-use Rattle.std.proofs.Common.{◌≡◌, ◌∙◌, ℕ, List, slice_get, Option, Some, None, Result, Ok, Err, refl, sym, subst, inl, inr}
-use Rattle.std.proofs.lemmas.Option.{same_Some}
+use Rattle.std.proofs.Common.{◌≡◌, ◌∙◌, ℕ, List, slice_get, Option, Some, None, option_map, Result, Ok, Err, refl, sym, ap, subst, inl, inr}
+use Rattle.std.proofs.lemmas.Option.{same_Some, slice_get-map}
 use Rattle.rina_base.specs.declared.cause.Cause.{Cause}
 use Rattle.rina_base.specs.declared.cause.Cause.TheVariants as causes
 use Rattle.rina_base.specs.declared.number.Key.{Key}
@@ -23,7 +23,8 @@ use Rattle.rina_data.specs.declared.step.OutStep.TheVariants as outs
 use Rattle.rina_data.specs.declared.step.StepError.{StepError}
 use Rattle.rina_data.specs.declared.step.StepError.TheVariants as errors
 use Rattle.rina_dif_law.specs.Cloud.{IsMine}
-use Rattle.rina_data.specs.Configs.{Config, Member, config_of}
+use Rattle.rina_data.specs.declared.settings.Member.{Member as Settled}
+use Rattle.rina_data.specs.Configs.{Config, Member, config_of, member_of}
 use Rattle.rina_dif_law.specs.Dif.{DifSeen}
 use Rattle.rina_data.specs.Process.{Process, link_by}
 use Rattle.rina_dif_law.specs.Incoming.{Ins}
@@ -37,14 +38,15 @@ use Rattle.rina_channel.specs.declared.channel.Channel.{Channel}
 use Rattle.rina_channel.specs.Channels.{IsOnPort}
 use Rattle.rina_channel.proofs.Below.{on_link}
 use Rattle.rina_dif.specs.declared.dif.Dif.{Dif}
-use Rattle.rina_dif.specs.Clocking.{ClockStepsAt, Serves, ServesAny, Steps, StepsOk}
+use Rattle.rina_dif.specs.Claiming.{ClaimsFirst, MayHaveClaimed, MayLink, NoLinkComes}
+use Rattle.rina_dif.specs.Clocking.{ClockStepsAt, Serves, ServesAny, ServesThen, Steps, StepsOk}
 use Rattle.rina_dif.specs.Holding.{Holds, LinksStand, Stands}
 use Rattle.rina_dif.specs.LinkSteps.{DoesLink}
 use Rattle.rina_dif.specs.Shown.{seen_of}
 use Rattle.rina_dif.specs.Steps.{AtHome, OutsAt}
 use Rattle.rina_dif.specs.Taking.{InsAt, TakesHome}
 use Rattle.rina_tower.specs.Bystanders.{IsIpc}
-use Rattle.rina_tower.specs.LowerUse.{MayUse}
+use Rattle.rina_tower.specs.LowerUse.{ClaimsEnd, MayClaim, MayUse, UsesOne}
 
 -- all members are IPC processes by their names
 abbrev AreIpc : List Member → Type 0
@@ -60,9 +62,13 @@ link_ipc d lines below i n process link f place e ipc st is is_link there =
     let same : linked.end ≡ e = same_Some linked.end e (sym linked.here ∙ end_of_stands below link.port f place e there) in
     subst (λ (z : End). IsIpc z.app) same (ipc linked.end.app mine)
 
+-- nothing was claimed
+uses_one : (s s' : Seen) → UsesOne s s' → MayUse s s'
+uses_one s s' u = record { mid = s; claims = inl refl; uses = u }
+
 -- What comes
 
-passes_use : (s : Seen) (port : Port) (s' : Seen) → (h : IsPassed s port s') → IsIpc h.end.app → MayUse s s'
+passes_use : (s : Seen) (port : Port) (s' : Seen) → (h : IsPassed s port s') → IsIpc h.end.app → UsesOne s s'
 passes_use s port s' h ipc = inr (inl (record {
   port = port;
   facility = h.facility;
@@ -76,7 +82,7 @@ passes_use s port s' h ipc = inr (inl (record {
   new_is = h.new_is;
 }))
 
-ins_use : (d : DifSeen) (lines : List Direction) (below : Seen) (i n : ℕ) (r : Result InStep StepError) (d' : DifSeen) (lines' : List Direction) (below' : Seen) → AreIpc d.config.members → IsStanding d lines below → Ins d lines below i n r d' lines' below' → MayUse below below'
+ins_use : (d : DifSeen) (lines : List Direction) (below : Seen) (i n : ℕ) (r : Result InStep StepError) (d' : DifSeen) (lines' : List Direction) (below' : Seen) → AreIpc d.config.members → IsStanding d lines below → Ins d lines below i n r d' lines' below' → UsesOne below below'
 ins_use d lines below i n (Ok ins.Idle) d' lines' below' ipc st h = inl h.3
 ins_use d lines below i n (Ok (ins.Took key end)) d' lines' below' ipc st h =
     passes_use below h.link.port below' h.passed (link_ipc d lines below i n h.process h.link h.passed.facility h.passed.place h.passed.end ipc st h.is_process.is_process h.is_link h.passed.stands)
@@ -86,11 +92,11 @@ ins_use d lines below i n (Err errors.NoLink) d' lines' below' ipc st h = inl h.
 ins_use d lines below i n (Err (errors.CountSpent need left)) d' lines' below' ipc st h = inl h.2
 
 ins_home : (d : DifSeen) (lines : List Direction) (below : Seen) (n : ℕ) (r : Result InStep StepError) (d' : DifSeen) (lines' : List Direction) (below' : Seen) (o : Option ℕ) → AreIpc d.config.members → IsStanding d lines below
-    → AtHome o (λ i. Ins d lines below i n r d' lines' below') ((r ≡ Err errors.NoIpc) × (d' ≡ d) × (lines' ≡ lines) × (below' ≡ below)) → MayUse below below'
+    → AtHome o (λ i. Ins d lines below i n r d' lines' below') ((r ≡ Err errors.NoIpc) × (d' ≡ d) × (lines' ≡ lines) × (below' ≡ below)) → UsesOne below below'
 ins_home d lines below n r d' lines' below' (Some i) ipc st h = ins_use d lines below i n r d' lines' below' ipc st h
 ins_home d lines below n r d' lines' below' None ipc st h = inl h.3
 
-ins_at : (d : DifSeen) (lines : List Direction) (below : Seen) (node n : ℕ) (r : Result InStep StepError) (d' : DifSeen) (lines' : List Direction) (below' : Seen) → AreIpc d.config.members → IsStanding d lines below → InsAt d lines below node n r d' lines' below' → MayUse below below'
+ins_at : (d : DifSeen) (lines : List Direction) (below : Seen) (node n : ℕ) (r : Result InStep StepError) (d' : DifSeen) (lines' : List Direction) (below' : Seen) → AreIpc d.config.members → IsStanding d lines below → InsAt d lines below node n r d' lines' below' → UsesOne below below'
 ins_at d lines below node n (Ok done) d' lines' below' ipc st h = ins_home d lines below n (Ok done) d' lines' below' (home node d.config.members) ipc st h
 ins_at d lines below node n (Err errors.Memory) d' lines' below' ipc st h = inl h.2
 ins_at d lines below node n (Err errors.NoIpc) d' lines' below' ipc st h = ins_home d lines below n (Err errors.NoIpc) d' lines' below' (home node d.config.members) ipc st h
@@ -100,11 +106,11 @@ ins_at d lines below node n (Err (errors.CountSpent need left)) d' lines' below'
 pub takes_use : (d d' : Dif) (below : Seen) (node n : ℕ) (r : Result InStep StepError) (below' : Seen) → AreIpc (config_of d.settings).members → Stands d below → ((lines : List Direction) → Holds d lines below → TakesHome d lines below node n r d' below') → MayUse below below'
 takes_use d d' below node n r below' ipc st does =
     let t = does st.0 st.1 in
-    ins_at (seen_of d) st.0 below node n r (seen_of t.taken) t.lines' below' ipc st.1.standing t.does
+    uses_one below below' (ins_at (seen_of d) st.0 below node n r (seen_of t.taken) t.lines' below' ipc st.1.standing t.does)
 
 -- What leaves
 
-sends_use : (s : Seen) (port : Port) (bytes : List ℕ) (num : _) (s' : Seen) → (h : IsSent s port bytes num s') → IsIpc h.end.app → MayUse s s'
+sends_use : (s : Seen) (port : Port) (bytes : List ℕ) (num : _) (s' : Seen) → (h : IsSent s port bytes num s') → IsIpc h.end.app → UsesOne s s'
 sends_use s port bytes num s' h ipc = inr (inl (record {
   port = port;
   facility = h.facility;
@@ -118,13 +124,13 @@ sends_use s port bytes num s' h ipc = inr (inl (record {
   new_is = h.new_is;
 }))
 
-offs_use : (refuses : Port → ℕ → Option SendError) (g : Config) (now : ℕ) (process : Process) (below : Seen) (n : ℕ) (key : Key) (cause : Cause) (process' : Process) (below' : Seen) → Offs refuses g now process below n key cause process' below' → MayUse below below'
+offs_use : (refuses : Port → ℕ → Option SendError) (g : Config) (now : ℕ) (process : Process) (below : Seen) (n : ℕ) (key : Key) (cause : Cause) (process' : Process) (below' : Seen) → Offs refuses g now process below n key cause process' below' → UsesOne below below'
 offs_use refuses g now process below n key (causes.Expired left charge) process' below' h = inl h.below_is
 offs_use refuses g now process below n key (causes.LinkDown port) process' below' h = inl h.below_is
 offs_use refuses g now process below n key cause process' below' h = absurd h
 
 goes_use : (refuses : Port → ℕ → Option SendError) (d : DifSeen) (lines : List Direction) (below : Seen) (i n : ℕ) (process : Process) (r : Result OutStep StepError) (process' : Process) (below' : Seen) → AreIpc d.config.members → IsStanding d lines below
-    → slice_get d.processes i ≡ Some process → Goes refuses d.config d.clock process below n r process' below' → MayUse below below'
+    → slice_get d.processes i ≡ Some process → Goes refuses d.config d.clock process below n r process' below' → UsesOne below below'
 goes_use refuses d lines below i n process (Ok outs.Idle) process' below' ipc st is h = inl h.3
 goes_use refuses d lines below i n process (Ok (outs.Sent key)) process' below' ipc st is h =
     let sent = h.sent.1 in
@@ -136,7 +142,7 @@ goes_use refuses d lines below i n process (Err errors.NoIpc) process' below' ip
 goes_use refuses d lines below i n process (Err errors.NoLink) process' below' ipc st is h = inl h.2
 goes_use refuses d lines below i n process (Err (errors.CountSpent need left)) process' below' ipc st is h = absurd h
 
-outs_use : (refuses : Port → ℕ → Option SendError) (d : DifSeen) (lines : List Direction) (below : Seen) (i n : ℕ) (r : Result OutStep StepError) (d' : DifSeen) (below' : Seen) → AreIpc d.config.members → IsStanding d lines below → Outs refuses d below i n r d' below' → MayUse below below'
+outs_use : (refuses : Port → ℕ → Option SendError) (d : DifSeen) (lines : List Direction) (below : Seen) (i n : ℕ) (r : Result OutStep StepError) (d' : DifSeen) (below' : Seen) → AreIpc d.config.members → IsStanding d lines below → Outs refuses d below i n r d' below' → UsesOne below below'
 outs_use refuses d lines below i n (Ok done) d' below' ipc st h = goes_use refuses d lines below i n h.process (Ok done) h.process' below' ipc st h.is_process h.done
 outs_use refuses d lines below i n (Err errors.Memory) d' below' ipc st h = goes_use refuses d lines below i n h.process (Err errors.Memory) h.process' below' ipc st h.is_process h.done
 outs_use refuses d lines below i n (Err errors.NoIpc) d' below' ipc st h = inl h.2
@@ -144,11 +150,11 @@ outs_use refuses d lines below i n (Err errors.NoLink) d' below' ipc st h = goes
 outs_use refuses d lines below i n (Err (errors.CountSpent need left)) d' below' ipc st h = goes_use refuses d lines below i n h.process (Err (errors.CountSpent need left)) h.process' below' ipc st h.is_process h.done
 
 outs_home : (refuses : Port → ℕ → Option SendError) (d : DifSeen) (lines : List Direction) (below : Seen) (n : ℕ) (r : Result OutStep StepError) (d' : DifSeen) (below' : Seen) (o : Option ℕ) → AreIpc d.config.members → IsStanding d lines below
-    → AtHome o (λ at. Outs refuses d below at n r d' below') ((r ≡ Err errors.NoIpc) × (d' ≡ d) × (below' ≡ below)) → MayUse below below'
+    → AtHome o (λ at. Outs refuses d below at n r d' below') ((r ≡ Err errors.NoIpc) × (d' ≡ d) × (below' ≡ below)) → UsesOne below below'
 outs_home refuses d lines below n r d' below' (Some i) ipc st h = outs_use refuses d lines below i n r d' below' ipc st h
 outs_home refuses d lines below n r d' below' None ipc st h = inl h.2
 
-outs_at : (refuses : Port → ℕ → Option SendError) (d : DifSeen) (lines : List Direction) (below : Seen) (node n : ℕ) (r : Result OutStep StepError) (d' : DifSeen) (below' : Seen) → AreIpc d.config.members → IsStanding d lines below → OutsAt refuses d below node n r d' below' → MayUse below below'
+outs_at : (refuses : Port → ℕ → Option SendError) (d : DifSeen) (lines : List Direction) (below : Seen) (node n : ℕ) (r : Result OutStep StepError) (d' : DifSeen) (below' : Seen) → AreIpc d.config.members → IsStanding d lines below → OutsAt refuses d below node n r d' below' → UsesOne below below'
 outs_at refuses d lines below node n (Ok done) d' below' ipc st h = outs_home refuses d lines below n (Ok done) d' below' (home node d.config.members) ipc st h
 outs_at refuses d lines below node n (Err errors.Memory) d' below' ipc st h = inl h.1
 outs_at refuses d lines below node n (Err errors.NoIpc) d' below' ipc st h = outs_home refuses d lines below n (Err errors.NoIpc) d' below' (home node d.config.members) ipc st h
@@ -156,7 +162,7 @@ outs_at refuses d lines below node n (Err errors.NoLink) d' below' ipc st h = ou
 outs_at refuses d lines below node n (Err (errors.CountSpent need left)) d' below' ipc st h = outs_home refuses d lines below n (Err (errors.CountSpent need left)) d' below' (home node d.config.members) ipc st h
 
 pub leaves_use : (refuses : Port → ℕ → Option SendError) (d d' : Dif) (below : Seen) (node n : ℕ) (r : Result OutStep StepError) (below' : Seen) → AreIpc (config_of d.settings).members → Stands d below → OutsAt refuses (seen_of d) below node n r (seen_of d') below' → MayUse below below'
-leaves_use refuses d d' below node n r below' ipc st does = outs_at refuses (seen_of d) st.0 below node n r (seen_of d') below' ipc st.1.standing does
+leaves_use refuses d d' below node n r below' ipc st does = uses_one below below' (outs_at refuses (seen_of d) st.0 below node n r (seen_of d') below' ipc st.1.standing does)
 
 -- What comes with time
 
@@ -175,7 +181,7 @@ freed_ipc d below place channel port f at e ipc links is on there =
     let l = link_below d below place channel port ipc links is on in
     subst (λ (z : End). IsIpc z.app) (same_Some l.0 e (sym l.1 ∙ end_of_stands below port f at e there)) l.2
 
-links_use : (d : Dif) (below : Seen) (ipc : AreIpc (config_of d.settings).members) (links : LinksStand d below) (i place : ℕ) (done : ClockStep) (new : DifSeen) (flows' : Flows) (below' : Seen) → DoesLink d links.lines below i place done new flows' below' → MayUse below below'
+links_use : (d : Dif) (below : Seen) (ipc : AreIpc (config_of d.settings).members) (links : LinksStand d below) (i place : ℕ) (done : ClockStep) (new : DifSeen) (flows' : Flows) (below' : Seen) → DoesLink d links.lines below i place done new flows' below' → UsesOne below below'
 links_use d below ipc links i place (clocks.Gone cep) new flows' below' h = inl h.2
 links_use d below ipc links i place (clocks.GaveUp num) new flows' below' h = inr (inr (record { port = h.attached.port; both = h.both; freed = h.freed; ipc = freed_ipc d below place h.channel h.attached.port h.freed.facility h.freed.place h.freed.end ipc links h.stands (on_link h.channel h.attached h.attached_is) h.freed.stands }))
 links_use d below ipc links i place (clocks.Ack cep) new flows' below' h = inl h.2
@@ -186,37 +192,55 @@ links_use d below ipc links i place (clocks.LinkNew link) new flows' below' h = 
 links_use d below ipc links i place (clocks.Timeout port) new flows' below' h = absurd h
 links_use d below ipc links i place (clocks.Message link) new flows' below' h = absurd h
 
-serves_use : (d : Dif) (lines : List Direction) (below : Seen) (node : ℕ) (done : ClockStep) (d' : Dif) (lines' : List Direction) (below' : Seen) → AreIpc (config_of d.settings).members → LinksStand d below → Serves d lines below node done d' lines' below' → MayUse below below'
+serves_use : (d : Dif) (lines : List Direction) (below : Seen) (node : ℕ) (done : ClockStep) (d' : Dif) (lines' : List Direction) (below' : Seen) → AreIpc (config_of d.settings).members → LinksStand d below → Serves d lines below node done d' lines' below' → UsesOne below below'
 serves_use d lines below node done d' lines' below' ipc links (inl flow) = inl flow.same_below
 serves_use d lines below node done d' lines' below' ipc links (inr link) = (let x = link.0.does links in links_use d below ipc links link.0.i x.place done (seen_of d') d'.connections.flows below' x.does)
 
-any_use : (d : Dif) (lines : List Direction) (below : Seen) (node : ℕ) (done : ClockStep) (d' : Dif) (lines' : List Direction) (below' : Seen) → AreIpc (config_of d.settings).members → LinksStand d below → ServesAny d lines below node done d' lines' below' → MayUse below below'
+any_use : (d : Dif) (lines : List Direction) (below : Seen) (node : ℕ) (done : ClockStep) (d' : Dif) (lines' : List Direction) (below' : Seen) → AreIpc (config_of d.settings).members → LinksStand d below → ServesAny d lines below node done d' lines' below' → UsesOne below below'
 any_use d lines below node done d' lines' below' ipc links (inl served) = serves_use d lines below node done d' lines' below' ipc links served.0
 any_use d lines below node done d' lines' below' ipc links (inr message) = inl message.2
 
-steps_use : (d : Dif) (lines : List Direction) (below : Seen) (node : ℕ) (done : ClockStep) (d' : Dif) (lines' : List Direction) (below' : Seen) → AreIpc (config_of d.settings).members → LinksStand d below → Steps d lines below node done d' lines' below' → MayUse below below'
-steps_use d lines below node clocks.Idle d' lines' below' ipc links h = any_use d lines below node clocks.Idle d' lines' below' ipc links h.1
-steps_use d lines below node (clocks.Gone cep) d' lines' below' ipc links h = any_use d lines below node (clocks.Gone cep) d' lines' below' ipc links h.1
-steps_use d lines below node (clocks.GaveUp num) d' lines' below' ipc links h = any_use d lines below node (clocks.GaveUp num) d' lines' below' ipc links h.1
-steps_use d lines below node (clocks.Ack cep) d' lines' below' ipc links h = any_use d lines below node (clocks.Ack cep) d' lines' below' ipc links h.1
-steps_use d lines below node (clocks.Again num) d' lines' below' ipc links h = any_use d lines below node (clocks.Again num) d' lines' below' ipc links h.1
-steps_use d lines below node (clocks.LinkLost link) d' lines' below' ipc links h = inl h.2
-steps_use d lines below node (clocks.LinkNew link) d' lines' below' ipc links h = any_use d lines below node (clocks.LinkNew link) d' lines' below' ipc links h.1
-steps_use d lines below node (clocks.Timeout port) d' lines' below' ipc links h = any_use d lines below node (clocks.Timeout port) d' lines' below' ipc links h.1
-steps_use d lines below node (clocks.Message link) d' lines' below' ipc links h = any_use d lines below node (clocks.Message link) d' lines' below' ipc links h.1
+-- a flow is claimed for a member
+module _ (d : Dif) (below : Seen) (node : ℕ) (ipc : AreIpc (config_of d.settings).members) where
+  claims_end : (i : ℕ) (member : Settled) (port : Port) (below' : Seen) → MayLink d node i member → ClaimsFirst below node member.name port below' → ClaimsEnd below below'
+  claims_end i member port below' may c =
+      let mine : IsMine (config_of d.settings).members member.name = record { addr = member.addr; member = record { place = i; member = member_of member; stands = slice_get-map member_of d.settings.members i ∙ ap (option_map member_of) may.is_member; addr_is = refl; name_is = refl } } in
+      record { fac = c.fac; node = node; app = member.name; port = port; claimed = c.claimed; ipc = ipc member.name mine }
 
-clock_ok_use : (d : Dif) (lines : List Direction) (below : Seen) (node : ℕ) (r : Result ClockStep StepError) (d' : Dif) (lines' : List Direction) (below' : Seen) → AreIpc (config_of d.settings).members → LinksStand d below → StepsOk d lines below node r d' lines' below' → MayUse below below'
-clock_ok_use d lines below node (Ok done) d' lines' below' ipc links h = steps_use d lines below node done d' lines' below' ipc links h
-clock_ok_use d lines below node (Err e) d' lines' below' ipc links h = absurd h
+  no_link_use : (mid : Seen) → NoLinkComes d below node mid → MayClaim below mid
+  no_link_use mid (inl none) = inl none.1
+  no_link_use mid (inr c) = inr (claims_end c.i c.member c.port mid c.may c.claims)
 
-clock_home : (d : Dif) (lines : List Direction) (below : Seen) (node : ℕ) (r : Result ClockStep StepError) (d' : Dif) (lines' : List Direction) (below' : Seen) (o : Option ℕ) → AreIpc (config_of d.settings).members → LinksStand d below
-    → AtHome o (λ i. StepsOk d lines below node r d' lines' below') ((r ≡ Err errors.NoIpc) × (seen_of d' ≡ seen_of d) × (lines' ≡ lines) × (below' ≡ below)) → MayUse below below'
-clock_home d lines below node r d' lines' below' (Some i) ipc links h = clock_ok_use d lines below node r d' lines' below' ipc links h
-clock_home d lines below node r d' lines' below' None ipc links h = inl h.3
+  may_use : (below' : Seen) → MayHaveClaimed d below node below' → MayUse below below'
+  may_use below' (inl same) = uses_one below below' (inl same)
+  may_use below' (inr (i, member, port, may, c)) = record { mid = below'; claims = inr (claims_end i member port below' may c); uses = inl refl }
 
-pub clock_uses : (d : Dif) (lines : List Direction) (below : Seen) (node : ℕ) (r : Result ClockStep StepError) (d' : Dif) (lines' : List Direction) (below' : Seen) → AreIpc (config_of d.settings).members → LinksStand d below → ClockStepsAt d lines below node r d' lines' below' → MayUse below below'
-clock_uses d lines below node (Ok done) d' lines' below' ipc links h = clock_home d lines below node (Ok done) d' lines' below' (home node (config_of d.settings).members) ipc links h
-clock_uses d lines below node (Err errors.Memory) d' lines' below' ipc links h = inl h.2
-clock_uses d lines below node (Err errors.NoIpc) d' lines' below' ipc links h = clock_home d lines below node (Err errors.NoIpc) d' lines' below' (home node (config_of d.settings).members) ipc links h
-clock_uses d lines below node (Err errors.NoLink) d' lines' below' ipc links h = clock_home d lines below node (Err errors.NoLink) d' lines' below' (home node (config_of d.settings).members) ipc links h
-clock_uses d lines below node (Err (errors.CountSpent need left)) d' lines' below' ipc links h = inl h.3
+  module _ (lines : List Direction) where
+    then_use : (done : ClockStep) (d' : Dif) (lines' : List Direction) (below' : Seen) → ServesThen d lines below node done d' lines' below' → MayUse below below'
+    then_use done d' lines' below' s = record { mid = s.mid; claims = no_link_use s.mid s.none; uses = any_use d lines s.mid node done d' lines' below' ipc s.holds.connected s.serves }
+
+    steps_use : (done : ClockStep) (d' : Dif) (lines' : List Direction) (below' : Seen) → Steps d lines below node done d' lines' below' → MayUse below below'
+    steps_use clocks.Idle d' lines' below' h = then_use clocks.Idle d' lines' below' h.1
+    steps_use (clocks.Gone cep) d' lines' below' h = then_use (clocks.Gone cep) d' lines' below' h.1
+    steps_use (clocks.GaveUp num) d' lines' below' h = then_use (clocks.GaveUp num) d' lines' below' h.1
+    steps_use (clocks.Ack cep) d' lines' below' h = then_use (clocks.Ack cep) d' lines' below' h.1
+    steps_use (clocks.Again num) d' lines' below' h = then_use (clocks.Again num) d' lines' below' h.1
+    steps_use (clocks.LinkLost link) d' lines' below' h = uses_one below below' (inl h.2)
+    steps_use (clocks.LinkNew link) d' lines' below' h = record { mid = below'; claims = inr (claims_end h.1.i h.1.member h.1.port below' h.1.may h.1.claims); uses = inl refl }
+    steps_use (clocks.Timeout port) d' lines' below' h = then_use (clocks.Timeout port) d' lines' below' h.1
+    steps_use (clocks.Message link) d' lines' below' h = then_use (clocks.Message link) d' lines' below' h.1
+
+    clock_ok_use : (r : Result ClockStep StepError) (d' : Dif) (lines' : List Direction) (below' : Seen) → StepsOk d lines below node r d' lines' below' → MayUse below below'
+    clock_ok_use (Ok done) d' lines' below' h = steps_use done d' lines' below' h
+    clock_ok_use (Err e) d' lines' below' h = absurd h
+
+    clock_home : (r : Result ClockStep StepError) (d' : Dif) (lines' : List Direction) (below' : Seen) (o : Option ℕ) → AtHome o (λ i. StepsOk d lines below node r d' lines' below') ((r ≡ Err errors.NoIpc) × (seen_of d' ≡ seen_of d) × (lines' ≡ lines) × (below' ≡ below)) → MayUse below below'
+    clock_home r d' lines' below' (Some i) h = clock_ok_use r d' lines' below' h
+    clock_home r d' lines' below' None h = uses_one below below' (inl h.3)
+
+    pub clock_uses : (r : Result ClockStep StepError) (d' : Dif) (lines' : List Direction) (below' : Seen) → ClockStepsAt d lines below node r d' lines' below' → MayUse below below'
+    clock_uses (Ok done) d' lines' below' h = clock_home (Ok done) d' lines' below' (home node (config_of d.settings).members) h
+    clock_uses (Err errors.Memory) d' lines' below' h = may_use below' h.2
+    clock_uses (Err errors.NoIpc) d' lines' below' h = clock_home (Err errors.NoIpc) d' lines' below' (home node (config_of d.settings).members) h
+    clock_uses (Err errors.NoLink) d' lines' below' h = clock_home (Err errors.NoLink) d' lines' below' (home node (config_of d.settings).members) h
+    clock_uses (Err (errors.CountSpent need left)) d' lines' below' h = uses_one below below' (inl h.3)

@@ -134,14 +134,14 @@ clock_any d lines below node done d' lines' below' (inr message) = ap (λ (z : D
 
 clock_done : (d : Dif) (lines : List Direction) (below : Seen) (node : ℕ) (done : ClockStep) (d' : Dif) (lines' : List Direction) (below' : Seen) → Steps d lines below node done d' lines' below' → SameWait (seen_of d) (seen_of d')
 clock_done d lines below node (clocks.LinkLost link) d' lines' below' s = loses_waits d lines below s.0.i node link d' s.0.loses
-clock_done d lines below node clocks.Idle d' lines' below' s = clock_any d lines below node clocks.Idle d' lines' below' s.1
-clock_done d lines below node (clocks.Gone cep) d' lines' below' s = clock_any d lines below node (clocks.Gone cep) d' lines' below' s.1
-clock_done d lines below node (clocks.GaveUp num) d' lines' below' s = clock_any d lines below node (clocks.GaveUp num) d' lines' below' s.1
-clock_done d lines below node (clocks.Ack cep) d' lines' below' s = clock_any d lines below node (clocks.Ack cep) d' lines' below' s.1
-clock_done d lines below node (clocks.Again num) d' lines' below' s = clock_any d lines below node (clocks.Again num) d' lines' below' s.1
-clock_done d lines below node (clocks.LinkNew link) d' lines' below' s = clock_any d lines below node (clocks.LinkNew link) d' lines' below' s.1
-clock_done d lines below node (clocks.Timeout port) d' lines' below' s = clock_any d lines below node (clocks.Timeout port) d' lines' below' s.1
-clock_done d lines below node (clocks.Message link) d' lines' below' s = clock_any d lines below node (clocks.Message link) d' lines' below' s.1
+clock_done d lines below node clocks.Idle d' lines' below' s = clock_any d lines s.1.mid node clocks.Idle d' lines' below' s.1.serves
+clock_done d lines below node (clocks.Gone cep) d' lines' below' s = clock_any d lines s.1.mid node (clocks.Gone cep) d' lines' below' s.1.serves
+clock_done d lines below node (clocks.GaveUp num) d' lines' below' s = clock_any d lines s.1.mid node (clocks.GaveUp num) d' lines' below' s.1.serves
+clock_done d lines below node (clocks.Ack cep) d' lines' below' s = clock_any d lines s.1.mid node (clocks.Ack cep) d' lines' below' s.1.serves
+clock_done d lines below node (clocks.Again num) d' lines' below' s = clock_any d lines s.1.mid node (clocks.Again num) d' lines' below' s.1.serves
+clock_done d lines below node (clocks.LinkNew link) d' lines' below' s = ap (λ (z : Dif). (seen_of z).waiting) s.1.takes.only
+clock_done d lines below node (clocks.Timeout port) d' lines' below' s = clock_any d lines s.1.mid node (clocks.Timeout port) d' lines' below' s.1.serves
+clock_done d lines below node (clocks.Message link) d' lines' below' s = clock_any d lines s.1.mid node (clocks.Message link) d' lines' below' s.1.serves
 
 clock_ok : (d : Dif) (lines : List Direction) (below : Seen) (node : ℕ) (r : Result ClockStep StepError) (d' : Dif) (lines' : List Direction) (below' : Seen) → StepsOk d lines below node r d' lines' below' → SameWait (seen_of d) (seen_of d')
 clock_ok d lines below node (Ok done) d' lines' below' s = clock_done d lines below node done d' lines' below' s

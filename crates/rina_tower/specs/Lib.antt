@@ -6,6 +6,7 @@ pub mod Bystanders
 pub mod Calls
 pub mod Cdap
 pub mod ClockTick
+pub mod Enrolling
 pub mod Events
 pub mod Fits
 pub mod Flows

@@ -1,8 +1,9 @@
 -- When a tower rests: until a tick nothing happens in it by itself.
-use Rattle.std.specs.Prelude.{◌≡◌, ℕ, List, map, slice_get, Some}
-use Rattle.rina_iface.specs.Seen.{Seen}
+use Rattle.std.specs.Prelude.{◌≡◌, ℕ, List, [], map, slice_get, Some}
+use Rattle.rina_iface.specs.Seen.{Fac, Seen}
 use Rattle.rina_dif.specs.declared.dif.Dif.{Dif}
 use Rattle.rina_dif.specs.Resting.{RestsUntil as DifRests}
+use Rattle.rina_dif.specs.Shown.{seen_of as seen_of_dif}
 use Rattle.rina_wire.specs.Resting.{RestsUntil as WiresRest, at_tick as wires_at}
 use Rattle.rina_tower.specs.declared.tower.Tower.{Tower, Wires, Rank'}
 use Rattle.rina_tower.specs.Ranks.{seen_of}
@@ -16,10 +17,18 @@ WiresRestUntil until (Rank' p difs below) = WiresRestUntil until below
 abbrev pub AreResting : ℕ → List Dif → Seen → Type 0
 AreResting until difs below = (n : ℕ) (d : Dif) → slice_get difs n ≡ Some d → DifRests until d below
 
--- nothing arrives on the wires before this tick, and each DIF of each rank rests
+-- no far end waits at any of the DIFs to be claimed
+abbrev pub AreClaimed : List Dif → Type 0
+AreClaimed difs = (n : ℕ) (d : Dif) → slice_get difs n ≡ Some d → (seen_of_dif d).waiting ≡ []
+
+-- so it is of a rank
+abbrev pub NoneWaits : Seen → Type 0
+NoneWaits s = (n : ℕ) (f : Fac) → slice_get s.facs n ≡ Some f → f.waiting ≡ []
+
+-- nothing arrives on the wires before this tick, each DIF of each rank rests, and at no rank below another one a far end waits to be claimed
 abbrev pub RestsUntil : ℕ → Tower → Type 0
 RestsUntil until (Wires a) = WiresRest until a
-RestsUntil until (Rank' p difs below) = AreResting until difs (seen_of below) × RestsUntil until below
+RestsUntil until (Rank' p difs below) = AreResting until difs (seen_of below) × NoneWaits (seen_of below) × RestsUntil until below
 
 -- the DIF with another clock
 abbrev pub dif_at : ℕ → Dif → Dif

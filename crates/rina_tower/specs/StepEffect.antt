@@ -8,8 +8,8 @@ use Rattle.rina_dif.specs.Holding.{Stands}
 use Rattle.rina_dif.specs.Shown.{seen_of}
 use Rattle.rina_tower.specs.LowerUse.{MayUse}
 
--- the DIF stands on the rank below as it is then, of which it used one end of its own at most, or freed one port of its own; no end of its own sends or passes
--- anything or begins or ceases to wait for a claim, the other DIFs of its rank stand on, and what never changes stays
+-- the DIF stands on the rank below as it is then, where it claimed one far end at most, and used one end of its own at most or freed one port of its own; no
+-- end of its own sends or passes anything or begins or ceases to wait for a claim, the other DIFs of its rank stand on, and what never changes stays
 pub record StandsAfter (below below' : Seen) (d d' : Dif) : Type 0 where
   pub stands : Stands d' below'
   pub uses : MayUse below below'

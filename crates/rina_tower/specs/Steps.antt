@@ -1,5 +1,5 @@
 -- What the steps of the DIFs do at rank r of a tower.
-use Rattle.std.specs.Prelude.{◌≡◌, ℕ, true, false, List, Option, Result, Err}
+use Rattle.std.specs.Prelude.{◌≡◌, ℕ, true, false, List, [], slice_get, Option, Some, None, Result, Err}
 use Rattle.rina_base.specs.declared.number.Port.{Port}
 use Rattle.rina_iface.specs.declared.error.SendError.{SendError}
 use Rattle.rina_iface.specs.Free.{FreesAsSeen}
@@ -21,12 +21,12 @@ use Rattle.rina_dif.specs.declared.dif.Dif.{Dif}
 use Rattle.rina_dif.specs.Clocking.{ClockSteps, FailsLate}
 use Rattle.rina_dif.specs.Elsewhere.{ChangesOnly, ChangesProcess, MayClock, MayTake, home_of}
 use Rattle.rina_dif.specs.Holding.{Holds}
-use Rattle.rina_dif.specs.Lower.{FreesBelow}
+use Rattle.rina_dif.specs.Lower.{ClocksBelow, name_here}
 use Rattle.rina_dif.specs.Shown.{seen_of as seen_of_dif}
 use Rattle.rina_dif.specs.Steps.{AsksHome, OutsAt}
 use Rattle.rina_dif.specs.Taking.{TakesHome}
 use Rattle.rina_tower.specs.declared.tower.Tower.{Tower, Wires, Rank'}
-use Rattle.rina_tower.specs.Calls.{FreesWhole, PassesAtTop, SendsWhole}
+use Rattle.rina_tower.specs.Calls.{ClaimsAtTop, FreesWhole, PassesAtTop, SendsWhole}
 use Rattle.rina_tower.specs.StepEffect.{StandsAfter}
 use Rattle.rina_tower.specs.Ranks.{seen_of}
 use Rattle.rina_tower.specs.Refusals.{frees_both, refuses_send}
@@ -82,7 +82,7 @@ OutSteps may slots slots' r dif node link result t t' =
 
 -- a DIF does the first thing that is due at a node; a flow fails only for its causes. Of the ends, with their connections,
 -- it changes at most the one whose CEP-id it tells, or, where a link is lost, those of the node; and no IPC process of
--- another node. Where a link is lost, the management of the member there loses it; no other management changes
+-- another node. Where a link is lost or new, the management of the member there loses or gets it; no other management changes
 pub record ClocksOne (below : Seen) (node : ℕ) (result : Result ClockStep StepError) (below' : Seen) (d d' : Dif) : Type 0 where
   pub does : (lines : List Direction) → Holds d lines below → ClockSteps d lines below node result d' below'
   pub fails : (lines : List Direction) → Holds d lines below → FailsLate d lines below d'
@@ -90,12 +90,22 @@ pub record ClocksOne (below : Seen) (node : ℕ) (result : Result ClockStep Step
   pub rest : ChangesByClock d d'
   pub leaves : ChangesOnly (MayClock result d (home_of d node)) (home_of d node) d d'
 
--- over the rank below, where one port is freed at most, for a link whose management connection gives a number up, and nothing else changes
+-- the name of a member of a DIF, in which far ends are claimed below
+abbrev pub name_among : Option Dif → ℕ → List ℕ
+name_among None node = []
+name_among (Some d) node = name_here d node
+
+-- of the member at a node of the DIF of that place
+abbrev pub claimant : List Dif → ℕ → ℕ → List ℕ
+claimant difs dif node = name_among (slice_get difs dif) node
+
+-- over the rank below, where one far end is claimed at most, and one port is freed at most, for a link whose management connection gives a number up, and
+-- nothing else changes
 abbrev pub ClocksAtTop : ℕ → ℕ → Result ClockStep StepError → Tower → Tower → Type 0
 ClocksAtTop dif node result (Wires a) (Wires a') = (result ≡ Err NoIpc) × (a' ≡ a)
 ClocksAtTop dif node result (Rank' p difs below) (Rank' p' difs' below') =
     AtDif dif (ClocksOne (seen_of below) node result (seen_of below')) ((result ≡ Err NoIpc) × (below' ≡ below)) difs difs' × SameBelow below below'
-    × FreesBelow (below' ≡ below) (FreesAsSeen seen_of frees_both FreesWhole below below') result
+    × ClocksBelow (λ t fac answer t'. ClaimsAtTop fac node (claimant difs dif node) answer t t') (FreesAsSeen seen_of frees_both FreesWhole) below result below'
 ClocksAtTop dif node result t t' = ⊥
 
 abbrev pub ClocksAt : ℕ → ℕ → ℕ → Result ClockStep StepError → Tower → Tower → Type 0

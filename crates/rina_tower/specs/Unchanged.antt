@@ -62,6 +62,10 @@ ChangesMembers d d' = d' ≡ record d { processes = d'.processes; managements = 
 abbrev pub ChangesByClock : Dif → Dif → Type 0
 ChangesByClock d d' = d' ≡ record d { processes = d'.processes; connections = d'.connections; managements = d'.managements; flows = d'.flows; ids = d'.ids; failed = d'.failed }
 
+-- nothing but its IPC processes, the managements of its members and the management connections of its links, and whether an allocation has failed
+abbrev pub ChangesJoiner : Dif → Dif → Type 0
+ChangesJoiner d d' = d' ≡ record d { processes = d'.processes; connections = d'.connections; managements = d'.managements; failed = d'.failed }
+
 -- What follows
 
 pub dif_refl : (d : Dif) → IsStaying d d

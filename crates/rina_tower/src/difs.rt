@@ -4,6 +4,7 @@ ghost use Rattle.rina_tower.specs.MemoryFailure.{have_failed};
 
 mod calls;
 mod clock;
+mod enrol;
 mod names;
 mod objects;
 mod places;

@@ -4,6 +4,7 @@
 mod applications;
 mod build;
 mod difs;
+mod enrol;
 mod events;
 mod facility;
 mod ledgers;

@@ -1,7 +1,7 @@
 //! The clock of a tower in which nothing happens.
-ghost use Rattle.std.specs.Prelude.{◌+◌, ◌<◌, ◌≤◌};
-ghost use Rattle.rina_tower.specs.Ranks.{now_of};
-ghost use Rattle.rina_tower.specs.Resting.{IsAtTick, RestsUntil, WiresRestUntil};
+ghost use Rattle.std.specs.Prelude.{◌≡◌, ◌+◌, ◌<◌, ◌≤◌, true};
+ghost use Rattle.rina_tower.specs.Ranks.{now_of, seen_of};
+ghost use Rattle.rina_tower.specs.Resting.{IsAtTick, NoneWaits, RestsUntil, WiresRestUntil};
 ghost use Rattle.rina_tower.specs.Stands.{IsTower};
 
 use crate::tower::{Rank, Tower};
@@ -18,6 +18,16 @@ impl Tower {
         }
     }
 
+    /// Whether no far end waits at the top rank to be claimed.
+    fn none_waits(&self) -> bool
+        ensures { result ≡ true → NoneWaits (seen_of self.now) }
+    {
+        match self {
+            Tower::Wires(wires) => wires.none_waits(),
+            Tower::Rank(rank) => rank.difs.none_waits(),
+        }
+    }
+
     /// A tick before which nothing arrives on the wires, and no round does anything, where it is after the clock. Where
     /// a frame arrives with the next tick, it is the clock, and no DIF is looked at.
     pub fn rests_until(&self) -> Tick
@@ -30,6 +40,9 @@ impl Tower {
                 let now = rank.below.clock();
                 let until = rank.below.rests_until();
                 if until <= now + 1 {
+                    return now;
+                }
+                if !rank.below.none_waits() {
                     return now;
                 }
                 until.min(rank.difs.rests_until(&rank.below))

@@ -6,6 +6,8 @@ mod applications;
 #[cfg(test)]
 mod drawn_again;
 #[cfg(test)]
+mod enrolling;
+#[cfg(test)]
 mod members;
 #[cfg(test)]
 mod publishing;

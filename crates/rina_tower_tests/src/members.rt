@@ -44,7 +44,7 @@ cube = [{ id = 1, kind = 'datagram', mpl = 20, window = 8, largest = 60 }]
 member = [{ node = 'b', addr = 2 }, { node = 'a', addr = 1 }]
 ";
 
-fn tower(alloc: Global) -> Result<Tower, Fail>
+pub(crate) fn tower(alloc: Global) -> Result<Tower, Fail>
     ensures { IfOk result (λ t. IsTower t) }
 {
     let plan = match read_stack(alloc, STACK.as_bytes(), &BuiltIn) {

@@ -123,7 +123,7 @@ flow = [
 
 /// No policies: the first head is taken.
 #[derive(Drop)]
-struct NoPolicies;
+pub(crate) struct NoPolicies;
 
 impl Picks for NoPolicies {
     ghost slots = { λ s. [] };

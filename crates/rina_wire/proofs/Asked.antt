@@ -65,6 +65,7 @@ asked_at a ask port own (Some l) h s free p =
       stands = fac_at a ask.fac ∙ ap (option_map fac_of) h;
       cube = offer_of l;
       offer = is.offer;
+      by_id = refl;
       fresh = p ∙ ports l ask.fac ask.node (drawn_here l ask.node sound is.member);
       flow = flow_on l a.now ask.node;
       at = refl;

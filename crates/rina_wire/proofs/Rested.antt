@@ -38,6 +38,15 @@ lines_wait : (now : ℕ) (ls : List Line) → ((fac : ℕ) (l : Line) → slice_
 lines_wait now [] later = refl
 lines_wait now (l ∷ ls) later = ap (λ x. x ∷ map (line_ticked now) ls) (line_waits now l (later 0 l refl)) ∙ ap (λ (xs : List Line). l ∷ xs) (lines_wait now ls (λ k. later (suc k)))
 
+-- none waits at a wire more
+pub next_claimed : (ls : List Line) (fac : ℕ) (here : Line) → here ≡ get_or ls fac here → here.waiting ≡ [] → ((at : ℕ) (w : Line) → at < fac → slice_get ls at ≡ Some w → w.waiting ≡ []) → (at : ℕ) (w : Line) → at < fac + 1 → slice_get ls at ≡ Some w → w.waiting ≡ []
+next_claimed ls fac here is none before at w lt stands = elim (cases_lt at fac) [
+  | inl l ↦ before at w l stands
+  | inr ge ↦
+      let e : at ≡ fac = omega (arith, lt, ge) in
+      subst (λ (l : Line). l.waiting ≡ []) (is ∙ get_or_from_slice_get ls fac w here (subst (λ (k : ℕ). slice_get ls k ≡ Some w) e stands)) none
+]
+
 -- All wires
 
 -- a tick of wires that rest is their clock, one later

@@ -1,5 +1,5 @@
 -- When wires only wait.
-use Rattle.std.specs.Prelude.{◌≡◌, ℕ, ◌<◌, ◌≤◌, ◌^◌, false, List, slice_get, Some}
+use Rattle.std.specs.Prelude.{◌≡◌, ℕ, ◌<◌, ◌≤◌, ◌^◌, false, List, [], slice_get, Some}
 use Rattle.rina_wire.specs.declared.flight.Flight.{Flight}
 use Rattle.rina_wire.specs.Air.{Air, Line, wire_at}
 
@@ -23,6 +23,10 @@ IsLast Is until = (later : ℕ) → later < 2 ^ 32 → Is later → later ≤ un
 pub record RestsUntil (until : ℕ) (a : Air) : Type 0 where
   pub alive : a.failed ≡ false
   pub quiet : (fac : ℕ) (l : Line) → wire_at a fac ≡ Some l → IsQuietLine until l
+
+-- no far end waits at any of the wires to be claimed
+abbrev pub NoneWaits : List Line → Type 0
+NoneWaits ls = (fac : ℕ) (l : Line) → slice_get ls fac ≡ Some l → l.waiting ≡ []
 
 -- the wires with another clock
 abbrev pub at_tick : ℕ → Air → Air

@@ -1,6 +1,5 @@
 pub mod Alive
 pub mod Allocating
-pub mod Asked
 pub mod Leading
 pub mod Reading
 pub mod Asking

@@ -1,4 +1,4 @@
-pub mod Built
+pub mod Kinds
 pub mod Resting
 pub mod Step
 pub mod Wanting

@@ -13,6 +13,8 @@ use Rattle.rina_data.specs.declared.step.StepError.{StepError}
 use Rattle.rina_data.specs.declared.step.StepError.TheVariants.{Memory as NoMemory}
 use Rattle.rina_dif.specs.declared.cdap.CdapCallError.{CdapCallError}
 use Rattle.rina_dif.specs.declared.cdap.CdapCallError.TheVariants as calls
+use Rattle.rina_dif.specs.declared.enrol.EnrolError.{EnrolError}
+use Rattle.rina_dif.specs.declared.enrol.EnrolError.TheVariants as enrol
 use Rattle.rina_dif.specs.declared.shown.Shown.{Shown}
 use Rattle.rina_law.specs.declared.entry.Entry.{Entry}
 use Rattle.rina_iface.specs.declared.ask.Ask.{Ask}
@@ -55,6 +57,7 @@ use Rattle.rina_tower.specs.Events.{Cuts, HoldsBack, Loses, Mends, Repeats}
 use Rattle.rina_tower.specs.Ledgers.{IsLedgerAt, member_at}
 use Rattle.rina_tower.specs.Members.{IsMemberState}
 use Rattle.rina_tower.specs.Objects.{ShowsUnderAt}
+use Rattle.rina_tower.specs.Enrolling.{EnrolsAt}
 use Rattle.rina_tower.specs.Publishing.{PublishesAt}
 use Rattle.rina_tower.specs.Ranks.{now_of, rank_of, seen_of}
 use Rattle.rina_tower.specs.Steps.{ClocksAt, InSteps, OutSteps}
@@ -69,7 +72,7 @@ use Rattle.rina_notes.specs.declared.label.Label.{Label}
 use Rattle.rina_notes.specs.declared.site.Site.{Site}
 use Rattle.rina_notes.specs.Sites.{dif_site_at, fac_named, label_in, port_in, site_at}
 use Rattle.rina_notes.specs.StepTold.{cdap_told, clock_told, in_told, object_told, off_told, out_told, step_told}
-use Rattle.rina_notes.specs.Told.{answer_told, app_told, member_told, publish_told, register_told, unregister_told, free_told, allocate_told, send_told, wire_told, drawn_told, port_told, state_told}
+use Rattle.rina_notes.specs.Told.{answer_told, app_told, enrol_told, member_told, publish_told, register_told, unregister_told, free_told, allocate_told, send_told, wire_told, drawn_told, port_told, state_told}
 use Rattle.rina_notes.specs.Look.{ends_at, state_at, noted, state_notes, looked}
 
 -- ---- the shelf beside the run
@@ -500,10 +503,10 @@ abbrev pub number_below : ℕ → Option RankedFac → Option ℕ
 number_below rank None = None
 number_below rank (Some f) = if rank == f.rank + 1 then Some f.fac else None
 
--- a call at a facility of the rank just below; where the field names none, it is refused
-abbrev pub AtLower : ℕ → Option ℕ → (ℕ → Option Answer → Run → Type 0) → Run → Option Answer → Run → Type 0
-AtLower field None Call w says w' = IsRefused (refusals.Unknown field) w says w'
-AtLower field (Some fac) Call w says w' = Call fac says w'
+-- a call with the number of what a field names; where it names nothing, it is refused
+abbrev pub AtField : ℕ → Option ℕ → (ℕ → Option Answer → Run → Type 0) → Run → Option Answer → Run → Type 0
+AtField field None Call w says w' = IsRefused (refusals.Unknown field) w says w'
+AtField field (Some n) Call w says w' = Call n says w'
 
 pub record CallsPublish (w : Run) (site : Site) (fac : ℕ) (says : Option Answer) (w' : Run) : Type 0 where
   pub result : Result (Unit {0}) PublishError
@@ -514,7 +517,21 @@ pub record CallsPublish (w : Run) (site : Site) (fac : ℕ) (says : Option Answe
 
 abbrev pub Publishing : Plan → List ℕ → List ℕ → List ℕ → Run → Option Answer → Run → Type 0
 Publishing plan dif node fac w says w' =
-    AtSite (dif_site_at plan dif node) (λ site. AtLower 3 (number_below site.rank (fac_named plan fac)) (CallsPublish w site) w) w says w'
+    AtSite (dif_site_at plan dif node) (λ site. AtField 3 (number_below site.rank (fac_named plan fac)) (CallsPublish w site) w) w says w'
+
+-- ---- enrol DIF NODE FAC PEER
+
+-- what is called where the names of the facility below and of the node are these
+pub record CallsEnrol (fac_name node_name : List ℕ) (w : Run) (site : Site) (fac peer : ℕ) (says : Option Answer) (w' : Run) : Type 0 where
+  pub result : Result (Unit {0}) EnrolError
+  pub memory : result ≢ Err enrol.Memory
+  pub does : EnrolsAt site.rank site.fac site.node fac peer result w.tower w'.tower
+  pub labels : w'.labels ≡ w.labels
+  pub told : says ≡ answer_told (λ done. Some answers.Done) (enrol_told fac_name node_name) result
+
+abbrev pub Enrolling : Plan → List ℕ → List ℕ → List ℕ → List ℕ → Run → Option Answer → Run → Type 0
+Enrolling plan dif node fac peer w says w' =
+    AtSite (dif_site_at plan dif node) (λ site. AtField 3 (number_below site.rank (fac_named plan fac)) (λ n. AtField 4 (place_in plan.nodes peer) (CallsEnrol fac node w site n) w) w) w says w'
 
 -- ---- member DIF NODE
 
@@ -564,10 +581,11 @@ Answering plan (events.In dif node link) w says w' = TakingIn plan dif node link
 Answering plan (events.Clock dif node) w says w' = Clocking plan dif node w says w'
 Answering plan (events.Cdap dif node bytes) w says w' = Asking plan dif node bytes w says w'
 Answering plan (events.Publish dif node fac) w says w' = Publishing plan dif node fac w says w'
+Answering plan (events.Enrol dif node fac peer) w says w' = Enrolling plan dif node fac peer w says w'
 Answering plan (events.Member dif node) w says w' = TellingMember plan dif node w says w'
 Answering plan event w says w' = ⊥
 
--- what a word does to the run, and what it answers; words that are not built do nothing lawful
+-- what a word does to the run, and what it answers
 abbrev pub ActsOnRun : Plan → ℕ → Event → Run → List Note → Run → Type 0
 ActsOnRun plan line (events.Read label) w ns w' = Reading line (port_in w.labels label) w ns w'
 ActsOnRun plan line (events.Journal fac) w ns w' = Showing plan line (fac_named plan fac) w ns w'

@@ -5,16 +5,19 @@ use Rattle.rina_data.specs.declared.step.ClockStep.{ClockStep}
 use Rattle.rina_data.specs.declared.step.InStep.{InStep}
 use Rattle.rina_data.specs.declared.step.OutStep.{OutStep}
 use Rattle.rina_iface.specs.declared.error.SendError.{SendError}
+use Rattle.rina_dif.specs.declared.enrol.EnrolError.{EnrolError}
 use Rattle.rina_schedule.specs.declared.event.Event.{Event}
 use Rattle.rina_schedule.specs.declared.event.Event.TheVariants as events
 use Rattle.rina_stack.specs.declared.plan.Plan.{Plan}
+use Rattle.rina_stack.specs.Names.{place_in}
 use Rattle.rina_tower.specs.declared.applications.AppError.{AppError}
 use Rattle.rina_tower.specs.Applications.{AppClaims, AppSends}
+use Rattle.rina_tower.specs.Enrolling.{EnrolsAt}
 use Rattle.rina_tower.specs.MemoryFailure.{has_failed}
 use Rattle.rina_tower.specs.Rounds.{Anything}
 use Rattle.rina_tower.specs.Steps.{ClocksAt, InSteps, OutSteps}
 use Rattle.rina_notes.specs.declared.site.Site.{Site}
-use Rattle.rina_notes.specs.Copying.{copies_app, copies_clock, copies_drawn, copies_in, copies_out, copies_send}
+use Rattle.rina_notes.specs.Copying.{copies_app, copies_clock, copies_drawn, copies_enrol, copies_in, copies_out, copies_send}
 use Rattle.rina_notes.specs.Look.{state_at}
 use Rattle.rina_notes.specs.Sites.{dif_site_at, fac_named, label_in, port_in, site_at}
 use Rattle.rina_words.specs.declared.run.Run.{Run}
@@ -37,6 +40,11 @@ WantsAt (Ok site) Wants = Wants site
 abbrev pub WantsOn : Option (ℕ × Port) → (ℕ → Port → Type 0) → Type 0
 WantsOn None Wants = ⊥
 WantsOn (Some p) Wants = Wants p.0 p.1
+
+-- a field names something, and of its number this is so
+abbrev pub WantsWith : Option ℕ → (ℕ → Type 0) → Type 0
+WantsWith None Wants = ⊥
+WantsWith (Some n) Wants = Wants n
 
 -- the line names a wire, and this is so
 abbrev pub WantsOnWire : Option ℕ → Type 0 → Type 0
@@ -63,6 +71,9 @@ WantsToClock plan w w' site = WantsToTell (λ (step : ClockStep). ClocksAt site.
 abbrev pub WantsToLetOut : Plan → ℕ → Stage → Stage → Site → Type 0
 WantsToLetOut plan link s s' site = WantsToTell (λ (step : OutStep). OutSteps Anything s.shelf s'.shelf site.rank site.fac site.node (link_of link) (Ok step) s.run.tower s'.run.tower) (copies_out plan site.rank) s'.run
 
+abbrev pub WantsToEnrol : Run → Run → Site → ℕ → ℕ → Type 0
+WantsToEnrol w w' site fac peer = WantsToTell (λ (e : EnrolError). EnrolsAt site.rank site.fac site.node fac peer (Err e) w.tower w'.tower) copies_enrol w'
+
 -- where a word that says one thing may want memory
 abbrev pub Wants : Plan → Event → Run → Run → Type 0
 Wants plan (events.Register fac node app) w w' = WantsAt (site_at plan 1 fac node) (λ site. HasFailed w')
@@ -77,4 +88,5 @@ Wants plan (events.In dif node link) w w' = WantsAt (dif_site_at plan dif node) 
 Wants plan (events.Clock dif node) w w' = WantsAt (dif_site_at plan dif node) (WantsToClock plan w w')
 Wants plan (events.Cdap dif node bytes) w w' = WantsAt (dif_site_at plan dif node) (λ site. HasFailed w')
 Wants plan (events.Publish dif node fac) w w' = WantsAt (dif_site_at plan dif node) (λ site. IsSome (number_below site.rank (fac_named plan fac)) × HasFailed w')
+Wants plan (events.Enrol dif node fac peer) w w' = WantsAt (dif_site_at plan dif node) (λ site. WantsWith (number_below site.rank (fac_named plan fac)) (λ n. WantsWith (place_in plan.nodes peer) (WantsToEnrol w w' site n)))
 Wants plan event w w' = ⊥

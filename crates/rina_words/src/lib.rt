@@ -1,7 +1,6 @@
 //! The words of a schedule: from what one line asks for to the calls behind it and its notes.
 #![tactic(auto)]
 
-mod built_words;
 mod cdap;
 mod dif;
 mod flow;
@@ -18,6 +17,5 @@ mod round;
 mod run;
 mod wire;
 
-pub use built_words::read_event;
 pub use line::step;
 pub use run::Run;

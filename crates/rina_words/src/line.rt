@@ -3,7 +3,7 @@ ghost use Rattle.std.specs.Prelude.{◌≡◌, ◌+◌, ◌<◌, ◌≤◌, nat_
 ghost use Rattle.rina_stack.specs.Plan.{IsPlan};
 ghost use Rattle.rina_tower.specs.Stands.{IsTower};
 ghost use Rattle.rina_tower.specs.Ranks.{now_of};
-ghost use Rattle.rina_words.specs.Built.{is_below, is_built, says_one};
+ghost use Rattle.rina_words.specs.Kinds.{is_below, says_one};
 ghost use Rattle.rina_words.specs.Wanting.{Wants};
 ghost use Rattle.rina_notes.specs.Look.{Leads, Extends};
 ghost use Rattle.rina_words.specs.Step.{Acts, Answering, HasNames, Says, Steps, Ticking, Ticks, TicksOnce, rounds_after, stage};
@@ -13,7 +13,7 @@ use crate::dif::{clock, in_step};
 use crate::flow::{FlowRequest, accept, allocate, register, send};
 use crate::journal::journal;
 use crate::ledger::ledger;
-use crate::member::{member, publish};
+use crate::member::{enrol, member, publish};
 use crate::policy::retire;
 use crate::read::read;
 use crate::release::{free, state, unregister};
@@ -125,6 +125,12 @@ fn answer_below(line: &Line<'_>, run: &mut Run, event: &Event) -> Result<Option<
         Event::Clock { dif, node } => clock(line, run, dif, node),
         Event::Cdap { dif, node, bytes } => cdap(line, run, dif, node, bytes),
         Event::Publish { dif, node, fac } => publish(line, run, dif, node, fac),
+        Event::Enrol {
+            dif,
+            node,
+            fac,
+            peer,
+        } => enrol(line, run, dif, node, fac, peer),
         Event::Member { dif, node } => Ok(member(line.plan, run, dif, node)),
         _ => unreachable!(),
     }
@@ -195,7 +201,6 @@ fn act<P: Retires>(
     trace: &mut Notes,
 ) -> Result<(), Memory>
     requires plan { IsPlan line.now.plan.now }
-    requires built { is_built event.now ≡ true }
     requires sound { IsTower run.old.tower }
     ensures does { OnOk result (Leads (λ ns. Acts line.now.plan.now line.now.number event.now (stage run.old (P.slots shelf.old)) ns (stage run.new (P.slots shelf.new))) trace.old trace.new) }
     ensures more { OnErr result (Extends trace.old trace.new) }
@@ -244,7 +249,6 @@ pub fn step<P: Retires>(
     trace: &mut Notes,
 ) -> Result<(), Memory>
     requires plan { IsPlan line.now.plan.now }
-    requires built { is_built event.now ≡ true }
     requires sound { IsTower run.old.tower }
     ensures does { OnOk result (Leads (λ ns. Steps line.now.plan.now line.now.number event.now (stage run.old (P.slots shelf.old)) ns (stage run.new (P.slots shelf.new))) trace.old trace.new) }
     ensures more { OnErr result (Extends trace.old trace.new) }

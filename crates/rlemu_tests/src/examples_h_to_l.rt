@@ -2,6 +2,124 @@
 //! `bin/examples-as-tests` from the folder examples/.
 
 pub(crate) static EXAMPLES_H_TO_L: &str = "\
+# A ring of eight that two cuts part, and that heals. While it is parted each part makes directory entries and deletes one that both had. Then both wires are mended, two
+# members enrol across them, and each gets a further link. What one part did is flooded to the other, the deletions among it. After that all eight keep the same entries and link
+# states, and an SDU goes the short way again. The names of n2 and n6 stand on their wires from the start, since the stack bound links there.
+nodes = [\"n1\", \"n2\", \"n3\", \"n4\", \"n5\", \"n6\", \"n7\", \"n8\"]
+wire = [
+  { name = \"w1\", ends = [\"n1\", \"n2\"], delay = 1, life = 10, largest = 1500 },
+  { name = \"w2\", ends = [\"n2\", \"n3\"], delay = 1, life = 10, largest = 1500 },
+  { name = \"w3\", ends = [\"n3\", \"n4\"], delay = 1, life = 10, largest = 1500 },
+  { name = \"w4\", ends = [\"n4\", \"n5\"], delay = 1, life = 10, largest = 1500 },
+  { name = \"w5\", ends = [\"n5\", \"n6\"], delay = 1, life = 10, largest = 1500 },
+  { name = \"w6\", ends = [\"n6\", \"n7\"], delay = 1, life = 10, largest = 1500 },
+  { name = \"w7\", ends = [\"n7\", \"n8\"], delay = 1, life = 10, largest = 1500 },
+  { name = \"w8\", ends = [\"n8\", \"n1\"], delay = 1, life = 10, largest = 1500 },
+]
+[[dif]]
+name = \"net\"
+rank = 1
+static = true
+pdu = 400
+widths = { addr = 1, cep = 1, len = 2, seq = 2 }
+queue = 64
+policy = \"strict\"
+wait = 500
+manage = { mpl = 40, r = 30, a = 2, retry = 10, window = 8 }
+cube = [ { id = 1, kind = \"datagram\", mpl = 40, window = 16, largest = 80 } ]
+member = [
+  { node = \"n1\", addr = 1 }, { node = \"n2\", addr = 2 }, { node = \"n3\", addr = 3 }, { node = \"n4\", addr = 4 },
+  { node = \"n5\", addr = 5 }, { node = \"n6\", addr = 6 }, { node = \"n7\", addr = 7 }, { node = \"n8\", addr = 8 },
+]
+link = [
+  { on = \"w1\", a = \"n1\", b = \"n2\" }, { on = \"w2\", a = \"n2\", b = \"n3\" }, { on = \"w3\", a = \"n3\", b = \"n4\" }, { on = \"w4\", a = \"n4\", b = \"n5\" },
+  { on = \"w5\", a = \"n5\", b = \"n6\" }, { on = \"w6\", a = \"n6\", b = \"n7\" }, { on = \"w7\", a = \"n7\", b = \"n8\" }, { on = \"w8\", a = \"n8\", b = \"n1\" },
+]
+flow = [ { cube = 1, from = { node = \"n1\", app = \"s\", label = \"p\" }, to = { node = \"n4\", app = \"t\", label = \"q\" } } ]
+%%
+register net n3 echo
+register net n7 gone
+tick 20
+cut w1
+cut w5
+tick 20
+send p 'lost
+register net n2 left
+register net n8 right
+unregister net n7 gone
+unregister net n3 echo
+tick 40
+rib net n4 /dir
+rib net n6 /dir
+mend w1
+mend w5
+enrol net n1 w1 n2
+enrol net n5 w5 n6
+tick 100
+rib net n4 /dir
+rib net n6 /dir
+rib net n4 /link
+rib net n6 /link
+send p 'three
+tick 3
+read q
+----
+1 0 ok
+2 0 ok
+3 20 ok
+4 20 ok
+5 20 ok
+6 40 ok
+7 40 no NoRoute 4
+8 40 ok
+9 40 ok
+10 40 ok
+11 40 ok
+12 80 ok
+13 80 obj /dir folder x
+13 80 obj /dir/gone value '7
+13 80 obj /dir/left value '2
+13 80 obj /dir/t value '4
+14 80 obj /dir folder x
+14 80 obj /dir/echo value '3
+14 80 obj /dir/right value '8
+14 80 obj /dir/t value '4
+15 80 ok
+16 80 ok
+17 80 ok
+18 80 ok
+19 180 ok
+20 180 obj /dir folder x
+20 180 obj /dir/left value '2
+20 180 obj /dir/right value '8
+20 180 obj /dir/t value '4
+21 180 obj /dir folder x
+21 180 obj /dir/left value '2
+21 180 obj /dir/right value '8
+21 180 obj /dir/t value '4
+22 180 obj /link folder x
+22 180 obj /link/1 value '2:1,8:1
+22 180 obj /link/2 value '1:1,3:1
+22 180 obj /link/3 value '2:1,4:1
+22 180 obj /link/4 value '3:1,5:1
+22 180 obj /link/5 value '4:1,6:1
+22 180 obj /link/6 value '5:1,7:1
+22 180 obj /link/7 value '6:1,8:1
+22 180 obj /link/8 value '1:1,7:1
+23 180 obj /link folder x
+23 180 obj /link/1 value '2:1,8:1
+23 180 obj /link/2 value '1:1,3:1
+23 180 obj /link/3 value '2:1,4:1
+23 180 obj /link/4 value '3:1,5:1
+23 180 obj /link/5 value '4:1,6:1
+23 180 obj /link/6 value '5:1,7:1
+23 180 obj /link/7 value '6:1,8:1
+23 180 obj /link/8 value '1:1,7:1
+24 180 sent 1.0
+25 183 ok
+26 183 got 183 'three
+end 183
+====
 # A PDU stays first in its queue while the window of the reliable flow below is shut.
 rounds = \"manual\"
 nodes = [\"a\", \"b\", \"c\"]

@@ -10,13 +10,21 @@ mod drawn;
 #[cfg(test)]
 mod ends;
 #[cfg(test)]
-mod examples_a_to_g;
+mod enrol_refusals;
+#[cfg(test)]
+mod enrol_rows;
+#[cfg(test)]
+mod examples_a_to_d;
+#[cfg(test)]
+mod examples_e_to_g;
 #[cfg(test)]
 mod examples_h_to_l;
 #[cfg(test)]
 mod examples_m_to_q;
 #[cfg(test)]
-mod examples_r_to_z;
+mod examples_r_to_s;
+#[cfg(test)]
+mod examples_t_to_z;
 #[cfg(test)]
 mod flat_rows;
 #[cfg(test)]

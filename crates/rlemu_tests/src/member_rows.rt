@@ -126,7 +126,8 @@ enrol d b w a
 2 0 no NoLink
 3 0 idle
 4 0 ok
-fault Schedule 5 1 0
+5 0 no NoSuchApp
+end 0
 ####
 nodes = [\"a\", \"b\", \"c\"]
 [[wire]]

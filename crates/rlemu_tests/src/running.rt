@@ -1,9 +1,13 @@
 //! How a text of inputs and outputs is run.
 use crate::check_rows::CHECK_ROWS;
-use crate::examples_a_to_g::EXAMPLES_A_TO_G;
+use crate::enrol_refusals::ENROL_REFUSALS;
+use crate::enrol_rows::ENROL_ROWS;
+use crate::examples_a_to_d::EXAMPLES_A_TO_D;
+use crate::examples_e_to_g::EXAMPLES_E_TO_G;
 use crate::examples_h_to_l::EXAMPLES_H_TO_L;
 use crate::examples_m_to_q::EXAMPLES_M_TO_Q;
-use crate::examples_r_to_z::EXAMPLES_R_TO_Z;
+use crate::examples_r_to_s::EXAMPLES_R_TO_S;
+use crate::examples_t_to_z::EXAMPLES_T_TO_Z;
 use crate::flat_rows::FLAT_ROWS;
 use crate::kinds_rows::KINDS_ROWS;
 use crate::member_rows::MEMBER_ROWS;
@@ -113,8 +117,14 @@ fn other_of_all<'a>(alloc: Global, text: &'a str) -> Result<Option<&'a str>, Fai
 }
 
 #[test]
-fn the_examples_from_a_to_g_write_their_outputs(rt: HostRuntime) -> Result<(), Fail> {
-    assert_eq!(rt; other_example(rt.alloc(), "run", EXAMPLES_A_TO_G)?, None);
+fn the_examples_from_a_to_d_write_their_outputs(rt: HostRuntime) -> Result<(), Fail> {
+    assert_eq!(rt; other_example(rt.alloc(), "run", EXAMPLES_A_TO_D)?, None);
+    Ok(())
+}
+
+#[test]
+fn the_examples_from_e_to_g_write_their_outputs(rt: HostRuntime) -> Result<(), Fail> {
+    assert_eq!(rt; other_example(rt.alloc(), "run", EXAMPLES_E_TO_G)?, None);
     Ok(())
 }
 
@@ -131,8 +141,14 @@ fn the_examples_from_m_to_q_write_their_outputs(rt: HostRuntime) -> Result<(), F
 }
 
 #[test]
-fn the_examples_from_r_to_z_write_their_outputs(rt: HostRuntime) -> Result<(), Fail> {
-    assert_eq!(rt; other_example(rt.alloc(), "run", EXAMPLES_R_TO_Z)?, None);
+fn the_examples_from_r_to_s_write_their_outputs(rt: HostRuntime) -> Result<(), Fail> {
+    assert_eq!(rt; other_example(rt.alloc(), "run", EXAMPLES_R_TO_S)?, None);
+    Ok(())
+}
+
+#[test]
+fn the_examples_from_t_to_z_write_their_outputs(rt: HostRuntime) -> Result<(), Fail> {
+    assert_eq!(rt; other_example(rt.alloc(), "run", EXAMPLES_T_TO_Z)?, None);
     Ok(())
 }
 
@@ -181,5 +197,17 @@ fn the_rows_of_ranks_write_their_outputs(rt: HostRuntime) -> Result<(), Fail> {
 #[test]
 fn the_rows_of_members_write_their_outputs(rt: HostRuntime) -> Result<(), Fail> {
     assert_eq!(rt; other_of_all(rt.alloc(), MEMBER_ROWS)?, None);
+    Ok(())
+}
+
+#[test]
+fn the_rows_of_enrolments_write_their_outputs(rt: HostRuntime) -> Result<(), Fail> {
+    assert_eq!(rt; other_of_all(rt.alloc(), ENROL_ROWS)?, None);
+    Ok(())
+}
+
+#[test]
+fn the_rows_of_refused_enrolments_write_their_outputs(rt: HostRuntime) -> Result<(), Fail> {
+    assert_eq!(rt; other_of_all(rt.alloc(), ENROL_REFUSALS)?, None);
     Ok(())
 }

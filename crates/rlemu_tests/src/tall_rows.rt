@@ -252,4 +252,23 @@ cut ac
 8 8 ok
 8 8 state p failed Below d3/a/1
 end 8
+====
+cut ab
+mend ab
+enrol d1 a ab b
+tick 100
+cut ac
+send p 'x
+tick 4
+read q
+----
+1 0 ok
+2 0 ok
+3 0 ok
+4 100 ok
+5 100 ok
+6 100 sent 1.0
+7 104 ok
+8 104 got 104 'x
+end 104
 ";

@@ -73,7 +73,7 @@ nodes = [\"a\"]
 tick 1
 
 # nothing
-enrol d b w a
+join d b w a
 ----
 1 1 ok
 fault Schedule 4 1 0

@@ -1,6 +1,7 @@
 //! When the DIFs of a rank rest.
-ghost use Rattle.std.specs.Prelude.{◌<◌};
-ghost use Rattle.rina_tower.specs.Resting.{AreResting};
+ghost use Rattle.std.specs.Prelude.{◌≡◌, ◌<◌, ℕ, true};
+ghost use Rattle.rina_tower.specs.Ranks.{seen_of_difs};
+ghost use Rattle.rina_tower.specs.Resting.{AreClaimed, AreResting, NoneWaits};
 ghost use Rattle.rina_tower.specs.Stands.{AreStanding};
 
 use super::Difs;
@@ -21,7 +22,26 @@ fn least_rest<F: Facility>(difs: &[Dif], below: &F) -> Tick
     until
 }
 
+/// Whether no far end waits at any of the DIFs to be claimed.
+fn none_waits(difs: &[Dif]) -> bool
+    ensures { result ≡ true → AreClaimed difs.now }
+{
+    for at in 0..difs.len() {
+        if !difs[at].none_waits() {
+            return false;
+        }
+    }
+    true
+}
+
 impl Difs {
+    /// Whether no far end waits at any of the DIFs to be claimed, whatever the clock says.
+    pub fn none_waits(&self) -> bool
+        ensures { result ≡ true → (now : ℕ) → NoneWaits (seen_of_difs now self.now) }
+    {
+        none_waits(self.items.as_slice())
+    }
+
     /// A tick before which the DIFs have nothing to do over the rank below, where it is after the clock.
     pub fn rests_until<F: Facility>(&self, below: &F) -> Tick
         requires valid { F.valid below.now }

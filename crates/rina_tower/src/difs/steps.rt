@@ -6,12 +6,12 @@ ghost use Rattle.rina_iface.specs.Send.{SendsAsSeen};
 ghost use Rattle.rina_policy.specs.Slots.{Slot};
 ghost use Rattle.rina_data.specs.declared.step.StepError.TheVariants.{Memory, NoIpc};
 ghost use Rattle.rina_data.specs.Lower.{PassesBelow, SendsBelow};
-ghost use Rattle.rina_dif.specs.Lower.{FreesBelow};
+ghost use Rattle.rina_dif.specs.Lower.{ClocksBelow};
 ghost use Rattle.rina_tower.specs.Bystanders.{Anyone, LeavesNow};
 ghost use Rattle.rina_tower.specs.MemoryFailure.{have_failed};
 ghost use Rattle.rina_tower.specs.Ranks.{seen_of_difs};
 ghost use Rattle.rina_tower.specs.Stands.{AreStanding};
-ghost use Rattle.rina_tower.specs.Steps.{ClocksOne, SendsOne, TakesOne};
+ghost use Rattle.rina_tower.specs.Steps.{ClocksOne, SendsOne, TakesOne, claimant};
 ghost use Rattle.rina_tower.specs.Levels.{AtDif};
 
 use super::Difs;
@@ -134,7 +134,7 @@ impl Difs {
         ensures valid { F.valid below.new }
         ensures below { F.same_below below.old below.new }
         ensures does { AtDif dif (ClocksOne (F.seen below.old) node result (F.seen below.new)) ((result ≡ Err NoIpc) × (below.new ≡ below.old)) self.old self.new }
-        ensures lower { FreesBelow (below.new ≡ below.old) (FreesAsSeen F.seen F.frees_both F.does_free below.old below.new) result }
+        ensures lower { ClocksBelow (λ x fac answer y. F.does_incoming x fac node (claimant self.old dif node) answer y) (FreesAsSeen F.seen F.frees_both F.does_free) below.old result below.new }
         ensures fails { result ≡ Err Memory → have_failed self.new ≡ true }
     {
         let Some(_dif) = self.get(dif) else {
@@ -157,7 +157,7 @@ impl Difs {
         ensures valid { F.valid below.new }
         ensures below { F.same_below below.old below.new }
         ensures does { AtDif dif (ClocksOne (F.seen below.old) node result (F.seen below.new)) ((result ≡ Err NoIpc) × (below.new ≡ below.old)) self.old self.new }
-        ensures lower { FreesBelow (below.new ≡ below.old) (FreesAsSeen F.seen F.frees_both F.does_free below.old below.new) result }
+        ensures lower { ClocksBelow (λ x fac answer y. F.does_incoming x fac node (claimant self.old dif node) answer y) (FreesAsSeen F.seen F.frees_both F.does_free) below.old result below.new }
         ensures fails { result ≡ Err Memory → have_failed self.new ≡ true }
         ensures stand { AreStanding self.new (F.seen below.new) }
         ensures clock { (F.seen below.new).now ≡ (F.seen below.old).now }

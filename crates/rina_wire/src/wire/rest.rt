@@ -1,4 +1,5 @@
 //! How long nothing arrives on a wire.
+ghost use Rattle.std.specs.Prelude.{◌≡◌, [], true};
 ghost use Rattle.rina_wire.specs.Resting.{AreQuietCopies, IsLast, IsQuietLine};
 
 use super::Wire;
@@ -24,5 +25,12 @@ impl Wire {
         ensures last { IsLast (λ until. IsQuietLine until self.now) result }
     {
         first_arrival(self.flights.as_slice())
+    }
+
+    /// Whether no far end waits to be claimed.
+    pub fn none_waits(&self) -> bool
+        ensures { result ≡ true → self.now.waiting ≡ [] }
+    {
+        self.waiting.len() == 0
     }
 }

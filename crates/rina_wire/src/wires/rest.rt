@@ -1,6 +1,6 @@
 //! The clock of wires on which nothing arrives.
-ghost use Rattle.std.specs.Prelude.{◌≡◌, ◌+◌, ◌<◌, ◌≤◌, false};
-ghost use Rattle.rina_wire.specs.Resting.{AreQuietLines, IsLast, RestsUntil, at_tick};
+ghost use Rattle.std.specs.Prelude.{◌≡◌, ◌+◌, ◌<◌, ◌≤◌, false, true};
+ghost use Rattle.rina_wire.specs.Resting.{AreQuietLines, IsLast, NoneWaits, RestsUntil, at_tick};
 ghost use Rattle.rina_wire.specs.Sound.{IsSound};
 
 use super::Wires;
@@ -19,7 +19,26 @@ fn quiet_until(wires: &[Wire]) -> Tick
     until
 }
 
+/// Whether no far end waits at any of the wires to be claimed.
+fn none_waits(wires: &[Wire]) -> bool
+    ensures { result ≡ true → NoneWaits wires.now }
+{
+    for fac in 0..wires.len() {
+        if !wires[fac].none_waits() {
+            return false;
+        }
+    }
+    true
+}
+
 impl Wires {
+    /// Whether no far end waits at any of the wires to be claimed.
+    pub fn none_waits(&self) -> bool
+        ensures { result ≡ true → NoneWaits self.now.wires }
+    {
+        none_waits(self.wires.as_slice())
+    }
+
     /// The first tick at which a copy arrives, where it is after the clock. `Tick::MAX` where none is in flight. Where an
     /// allocation has failed, the clock itself: no tick passes any more.
     pub fn rests_until(&self) -> Tick

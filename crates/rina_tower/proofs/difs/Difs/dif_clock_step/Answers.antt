@@ -1,4 +1,8 @@
-use Rattle.std.proofs.Common.{inl}
+use Rattle.std.proofs.Common.{Option, inl, subst, sym}
+use Rattle.rina_iface.specs.Free.{FreesAsSeen}
+use Rattle.rina_dif.specs.declared.dif.Dif.{Dif}
+use Rattle.rina_dif.specs.Lower.{ClocksBelow}
+use Rattle.rina_tower.specs.Steps.{name_among}
 use Rattle.rina_tower.proofs.Lasting.{clocked_after}
 use Rattle.rina_tower.proofs.Failed.{failed_at}
 use Rattle.rina_tower.proofs.Serving.{at_one, one_at}
@@ -17,3 +21,9 @@ returns-clause-does g c =
 
 pub returns-clause-fails : goal.returns-clause-fails
 returns-clause-fails g c = λ h. failed_at c.args.dif c.args.self.now c.self.inside.items.items c.in-Some._dif.now c.clock_step.new.self c.self.view_is c.in-Some.ensures (c.clock_step.ensures.fails.1 h)
+
+pub returns-clause-lower : goal.returns-clause-lower
+returns-clause-lower g c =
+    let one = c.index_mut-one.result.now in
+    let at = one_at c.args.dif c.args.self.now c.self.inside.items.items c.in-Some._dif.now _ one c.self.view_is c.in-Some.ensures c.index_mut-one.ensures.value in
+    subst (λ (o : Option Dif). ClocksBelow (λ x fac answer y. g.F.Facility.does_incoming x fac c.args.node (name_among o c.args.node) answer y) (FreesAsSeen g.F.Facility.seen g.F.Facility.frees_both g.F.Facility.does_free) c.args.below.now c.clock_step.result c.clock_step.new.below) (sym at) c.clock_step.ensures.lower

@@ -1,0 +1,10 @@
+pub mod Marks
+pub mod Talks
+pub mod Steps
+pub mod Ends
+pub mod Taken
+pub mod Asked
+pub mod Led
+pub mod Lost
+pub mod Enrolled
+pub mod Sample

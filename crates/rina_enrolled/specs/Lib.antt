@@ -1,0 +1,2 @@
+pub mod Enrolled
+pub mod Sample
