@@ -5,9 +5,11 @@
     python3 make_input.py B N [LOSE]     chain of 6 nodes, reliable flow over 5 hops;
                                          the middle wire loses LOSE of 1000 frames (50)
     python3 make_input.py C N RANKS      two nodes, a tower of 1 to 8 static DIFs
+    python3 make_input.py E N CHILDREN   N members of a DIF that is not static enrol, one behind the other, each over
+                                         a wire of its own at one that has CHILDREN others at most (1: a chain)
 
-N SDUs of 80 zero bytes are sent and read.
-W, A and C send 64 and then tick once and read; B sends 2 in two ticks and reads after 16.
+W, A, B and C send and read N SDUs of 80 zero bytes: W, A and C send 64 and then tick once and read;
+B sends 2 in two ticks and reads after 16. E sends none: the members tell each other their items alone.
 """
 import sys
 
@@ -99,6 +101,31 @@ def stack_c(ranks):
     return lines
 
 
+def parent(k, children):
+    return (k - 1) // children
+
+
+def stack_e(n, children):
+    """A DIF whose first member alone is enrolled. Its management windows take all items at once."""
+    names = [f"n{k}" for k in range(n)]
+    lines = ["nodes = [" + ", ".join(f'"{name}"' for name in names) + "]"]
+    for k in range(1, n):
+        lines += wire(f"w{k}", names[parent(k, children)], names[k])
+    return lines + [
+        "[[dif]]",
+        'name = "d"',
+        "rank = 1",
+        "pdu = 400",
+        f"widths = {WIDTHS}",
+        "queue = 256",
+        'policy = "strict"',
+        "wait = 2000",
+        "manage = { mpl = 40, r = 400, a = 2, retry = 40, window = 256 }",
+        f'cube = [ {{ id = 1, kind = "datagram", mpl = 40, window = 16, largest = {SDU} }} ]',
+        "member = [ " + ", ".join(f'{{ node = "{name}", addr = {k + 1} }}' for k, name in enumerate(names)) + " ]",
+    ]
+
+
 def schedule_batches(n, batch=64):
     """A and C: a batch is sent, crosses the wire in one tick, and is read."""
     done = 0
@@ -126,9 +153,23 @@ def schedule_paced(n, per_send=2, per_read=16):
     yield "read q"
 
 
+def schedule_enrolments(n, children):
+    """E: an enrolment takes four ticks; what the others are told of it goes on while the next ones enrol."""
+    for k in range(1, n):
+        at = f"n{parent(k, children)}"
+        yield f"publish d {at} w{k}"
+        yield f"enrol d n{k} w{k} {at}"
+        yield "tick 6"
+    yield f"tick {n}"
+    yield f"member d n{n - 1}"
+    yield "rib d n0 /member"
+    yield "rib d n0 /link"
+    yield f"rib d n{n - 1}"
+
+
 def main():
     words = sys.argv[1:]
-    if len(words) < 2 or words[0] not in ("W", "A", "B", "C"):
+    if len(words) < 2 or words[0] not in ("W", "A", "B", "C", "E"):
         sys.exit(__doc__)
     what, n = words[0], int(words[1])
     if what == "W":
@@ -139,6 +180,9 @@ def main():
         stack, lines = stack_a(), schedule_batches(n)
     elif what == "B":
         stack, lines = stack_b(int(words[2]) if len(words) > 2 else 50), schedule_paced(n)
+    elif what == "E":
+        children = int(words[2]) if len(words) > 2 else 1
+        stack, lines = stack_e(n, children), schedule_enrolments(n, children)
     else:
         stack, lines = stack_c(int(words[2]) if len(words) > 2 else 4), schedule_batches(n)
     text = "\n".join(stack) + "\n%%\n" + "\n".join(lines) + "\n"

@@ -1,9 +1,12 @@
-"""Measures two programs on the scenarios of make_input.py, and prints a table.
+"""Measures two programs on the scenarios of make_input.py, and prints a table; then rlemu alone on enrolments, and prints a second one.
 
     python3 measure.py RLEMU PLAIN MAKE_INPUT WORK_FOLDER
 
 Instructions are counted by valgrind's callgrind at 1,000 and 3,000 SDUs, and the difference divided by 2,000, so
 that the start counts for nothing. Seconds and peak memory are those of one run at 10,000 and at 100,000 SDUs.
+
+The instructions, seconds and memory of enrolments are those of whole runs. Each run is looked at before: the last member has to be enrolled, and the
+first and the last have to keep the items of all members.
 """
 import os
 import re
@@ -19,6 +22,10 @@ SCENARIOS = [
     ("five hops, reliable, 5 % loss", ["B", "50"], ["B", "50"]),
     ("four ranks", ["C", "4"], ["C", "4"]),
 ]
+
+# The shapes of a DIF that grows: how many others enrol at one member at most.
+SHAPES = [("chain", "1"), ("tree", "8")]
+MEMBERS = (8, 16, 32, 64)
 
 
 def input_of(make, work, words, count):
@@ -59,6 +66,33 @@ def measured(command, make, work, words):
     return row
 
 
+def is_grown(command, path, members):
+    """Whether the run ends well, with its last member enrolled, and all members and their links known at the first and at the last."""
+    with open(path, "rb") as f:
+        done = subprocess.run(command, stdin=f, stdout=subprocess.PIPE, stderr=subprocess.DEVNULL, text=True)
+    shown = [len(re.findall(rf" obj /{kind}/\d+ value ", done.stdout)) for kind in ("member", "link")]
+    return done.returncode == 0 and " ok enrolled\n" in done.stdout and shown == [2 * members] * 2
+
+
+def enrolments(command, make, work):
+    """Prints for each shape and number of members the instructions, behind them how many times those of half as many, seconds and MiB."""
+    print("| members | " + " | ".join(f"{name}: instructions | s | MiB" for name, _ in SHAPES) + " |")
+    print("|---" * (1 + 3 * len(SHAPES)) + "|")
+    before = [None] * len(SHAPES)
+    for members in MEMBERS:
+        row = []
+        for at, (_, children) in enumerate(SHAPES):
+            path = input_of(make, work, ["E", children], members)
+            if not is_grown(command, path, members):
+                row += ["-"] * 3
+                continue
+            _, seconds, peak = status(command, path)
+            count = instructions(command, path, work)
+            row += [cell(count, before[at], "{:,}"), f"{seconds:.2f}", f"{peak:.0f}"]
+            before[at] = count
+        print(f"| {members} | " + " | ".join(row) + " |", flush=True)
+
+
 def cell(value, other, form):
     if value is None:
         return "-"
@@ -80,6 +114,8 @@ def main():
         print(f"| {name} | " + " | ".join(cell(*each) for each in zip(ours, theirs, forms)) + " |", flush=True)
         if plain_words:
             print("| - the plain program | " + " | ".join(cell(t, None, f) for t, f in zip(theirs, forms)) + " |", flush=True)
+    print()
+    enrolments([rlemu, "run"], make, work)
 
 
 main()
