@@ -5,6 +5,8 @@
 #[cfg(test)]
 mod cuts;
 #[cfg(test)]
+mod enrolments;
+#[cfg(test)]
 mod faults;
 #[cfg(test)]
 mod inputs;
