@@ -1,4 +1,5 @@
 pub mod Absence
+pub mod Allocating
 pub mod Asking
 pub mod Binding
 pub mod Building

@@ -213,6 +213,20 @@ impl Dif {
         }
     }
 
+    /// Whether an item is due at the links of the IPC process at a place or at the flows of its node that goes before asks which have waited for
+    /// their whole time: held pieces are of a state that has ended, or a number is given up.
+    fn ends_something(&self, at: usize, node: Node) -> bool {
+        if let Some(link) = self.next_link_due(at) {
+            if rank(link.item) < rank(Item::Ack) {
+                return true;
+            }
+        }
+        match self.next_due(node) {
+            Some(flow) => rank(flow.item) < rank(Item::Ack),
+            None => false,
+        }
+    }
+
     /// Does the item that is due at the management connection of a link, whose turn it is, at the IPC process at a place. Where a
     /// number is given up the flow below of the link is freed; nothing else changes below. Without memory nothing changes.
     fn serve_link<F: Facility>(
@@ -282,6 +296,11 @@ impl Dif {
         ensures manages { ManagesStep result (Some at) self.old (F.seen below.old) node self.new.managements }
         ensures leaves { ChangesOnly (MayClock result self.old (Some at)) (Some at) self.old self.new }
     {
+        if !self.ends_something(at, node) {
+            if let Some(port) = self.time_out(at) {
+                return Ok(ClockStep::Timeout { port });
+            }
+        }
         match self.first_link(at, node) {
             Some(next) => Ok(self.serve_link(alloc, below, at, next)?),
             None => self.do_next(alloc, at, node),

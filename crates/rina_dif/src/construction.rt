@@ -131,7 +131,7 @@ impl Dif {
         let members = made.settings.members.as_slice();
         route_all(&mut made.processes, alloc, members, managements.as_slice())?;
         made.managements = managements;
-        made.laid = Layout::of(alloc, dif.is_static, plans)?;
+        made.laid = Layout::of(alloc, dif.is_static, plans, dif.wait)?;
         let (settings, clock) = (&made.settings, made.clock);
         let links = ports.as_slice();
         let manage = dif.manage;

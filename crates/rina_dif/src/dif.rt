@@ -9,6 +9,7 @@ use crate::connections::Connections;
 use crate::layout::Layout;
 use crate::managements::Managements;
 use crate::processes::Processes;
+use crate::waiting_asks::WaitingAsk;
 use rina_base::{Node, Seq, Tick};
 use rina_data::{Member, Settings, StepError};
 use rina_flows::Flows;
@@ -34,6 +35,8 @@ pub struct Dif {
     pub(crate) ids: MemberIds,
     /// The places of the far ends that nobody has claimed yet, the oldest first.
     pub(crate) waiting: Vec<usize>,
+    /// The asks for flows that wait for their answers, in the order in which they were made.
+    pub(crate) asks: Vec<WaitingAsk>,
     pub(crate) names: Seq<Registered>,
     /// The nodes of its enrolled members, in the order of the members.
     pub(crate) enrolled: Seq<Node>,

@@ -104,12 +104,14 @@ impl Dif {
     {
         let name = self.name_of_flow(alloc, place)?;
         let rest = self.rest_at(place);
+        let peer = self.peer_of(place);
         let clock = self.clock;
         let flows = &mut self.flows;
         match self.processes.give_up(alloc, at, flows, clock, place)? {
             Some(num) => {
                 self.ids.give_back(at, clock, rest.cep, rest.ticks);
                 self.managements.remove(at, name.as_slice());
+                self.send_delete(alloc, at, peer)?;
                 Ok(Some(num))
             }
             None => Ok(None),

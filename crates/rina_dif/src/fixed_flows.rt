@@ -56,7 +56,7 @@ pub(crate) fn is_asker(end: &End) -> bool
 }
 
 /// How many flows were asked for at a node.
-fn asked(ends: &[End], node: Node) -> usize
+pub(crate) fn asked(ends: &[End], node: Node) -> usize
     ensures { result ≡ asked_at node ends.now }
 {
     ends.iter()
@@ -70,6 +70,15 @@ pub(crate) fn greatest(widths: Widths) -> u32
     ensures { result ≡ 2 ^ (8 * widths.seq) - 1 }
 {
     match widths.seq {
+        1 => 0xff,
+        2 => 0xffff,
+        _ => u32::MAX,
+    }
+}
+
+/// The greatest CEP-id.
+fn greatest_cep(widths: Widths) -> u32 {
+    match widths.cep {
         1 => 0xff,
         2 => 0xffff,
         _ => u32::MAX,
@@ -167,7 +176,7 @@ impl Dif {
     }
 
     /// What a member at a node draws next.
-    fn draw(&self, node: Node) -> NextEnd
+    pub(crate) fn draw(&self, node: Node) -> NextEnd
         requires valid { IsDif self.now }
         requires some { SomeDraws self.now node }
         ensures { Draws self.now node result }
@@ -192,6 +201,19 @@ impl Dif {
                 n: drawn + 1,
             },
         }
+    }
+
+    /// How many CEP-ids of the member at a place are in use or at rest, where none is free; or how many ports were drawn at its node, where all
+    /// were. None exactly where a CEP-id and a port may be drawn there.
+    // contract: Some exactly by the condition of NoIds: `free_id` is none, or 2^32 - 1 ports were drawn at the node.
+    pub(crate) fn ids_spent(&self, at: usize, node: Node) -> Option<u32> {
+        if self.ids.free(at, self.clock).is_none() {
+            return Some(greatest_cep(self.settings.widths));
+        }
+        if drawn(self.flows.journal.ends.as_slice(), node) >= u32::MAX as usize {
+            return Some(u32::MAX);
+        }
+        None
     }
 
     /// Adds them, and the name of the far application where it is new.

@@ -138,7 +138,7 @@ impl Dif {
 
     /// The place of the end of the link with a port below that takes a PDU as a piece of the link's own, and the piece by the places
     /// of the two ends. None exactly where no end takes it so.
-    fn piece_taker<'a>(&self, port: Port, came: &Came<'a>) -> Option<(usize, PduView<'a>)>
+    pub(crate) fn piece_taker<'a>(&self, port: Port, came: &Came<'a>) -> Option<(usize, PduView<'a>)>
         ensures { OwnPieceTakenBy self.now came.now.since port (hop_of came.now.hop) result }
     {
         if self.is_for_link(came) {
@@ -298,9 +298,11 @@ impl Dif {
                 return Err(StepError::CountSpent { need, left });
             }
         };
+        let messages = self.flow_messages_ahead(alloc, port, &came)?;
         let end = self.settle(alloc, at, port, &came)?;
         below.pass(port);
         self.handle_messages(at, link, handled);
+        self.take_messages(alloc, at, messages)?;
         Ok(InStep::Took { key, end })
     }
 

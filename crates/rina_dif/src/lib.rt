@@ -3,6 +3,8 @@
 
 mod absence;
 mod agreement;
+mod answers;
+mod ask_refusals;
 mod asks;
 mod cdap;
 mod claims;
@@ -10,11 +12,14 @@ mod clock;
 mod clock_steps;
 mod connections;
 mod construction;
+mod deletes;
 mod dif;
 mod due;
 mod enrol;
 mod facade;
+mod far_ends;
 mod fixed_flows;
+mod flow_messages;
 mod flow_state;
 mod in_step;
 mod layout;
@@ -39,6 +44,7 @@ mod send;
 mod shown;
 mod start;
 mod text;
+mod waiting_asks;
 mod write_offs;
 
 pub use absence::state_ends_by_the_clock;

@@ -146,7 +146,7 @@ impl Dif {
     }
 
     /// The bytes of the SDUs that a piece would make whole at the end of a place. The piece is not taken.
-    fn bodies_ahead(&self, alloc: Global, place: usize, pdu: &PduView<'_>) -> Result<Bodies, Memory>
+    pub(crate) fn bodies_ahead(&self, alloc: Global, place: usize, pdu: &PduView<'_>) -> Result<Bodies, Memory>
         requires clock { self.now.clock ≤ 10_000_000 }
         requires conn { place < length self.now.connections.flows.conns }
         ensures { IfOk result (λ bodies. IsToldAhead self.now place (pdu_of pdu.now) bodies) }

@@ -16,6 +16,7 @@ ghost use Rattle.rina_dif.specs.Holding.{Holds, Stands};
 ghost use Rattle.rina_dif.specs.Whole.{IsDif};
 
 use crate::dif::Dif;
+use crate::waiting_asks::asked_by;
 use rina_base::{Cep, Memory, Node, Port};
 use rina_iface::{FreeError, PortState, Why};
 use std::alloc::Global;
@@ -54,7 +55,7 @@ impl Dif {
 
     /// Closes the allocated end at a place, which is at a node, writes off what its connection holds in the ledger of the
     /// member there, and deletes the object of the flow.
-    fn close_at(&mut self, alloc: Global, at: usize, node: Node) -> Result<(), Memory>
+    pub(crate) fn close_at(&mut self, alloc: Global, at: usize, node: Node) -> Result<(), Memory>
         requires valid { IsDif self.old }
         requires at { at < length self.old.flows.journal.ends }
         requires end { (e : End) → slice_get self.old.flows.journal.ends at ≡ Some e → (e.state ≡ Allocated) × (e.port.node ≡ node) }
@@ -78,6 +79,17 @@ impl Dif {
         Ok(())
     }
 
+    /// Closes the allocated end at a place, which is at a node, and tells the far end.
+    // contract: `FreesHere` with Ok, and the Delete of `send_delete` waits at the member.
+    fn give_up_flow(&mut self, alloc: Global, at: usize, node: Node) -> Result<(), Memory> {
+        let Some(home) = self.place_at_node(node) else {
+            unreachable!()
+        };
+        let peer = self.peer_of(at);
+        self.close_at(alloc, at, node)?;
+        self.send_delete(alloc, home, peer)
+    }
+
     /// Withdraws the end at a place, which was asked for and is at a node. Its CEP-id rests from now on.
     fn withdraw_at(&mut self, at: usize, node: Node)
         requires valid { IsDif self.old }
@@ -90,12 +102,10 @@ impl Dif {
         let Some(home) = self.place_at_node(node) else {
             unreachable!()
         };
-        let rest = self.rest_at(at);
-        self.flows
-            .journal
-            .ends
-            .set_state(at, PortState::Refused(Why::Withdrawn));
-        self.ids.give_back(home, self.clock, rest.cep, rest.ticks);
+        if let Some(which) = asked_by(self.asks.as_slice(), at) {
+            let _ask = self.asks.remove(which);
+        }
+        self.refuse_at(home, at, Why::Withdrawn);
     }
 
     /// Frees the end at a place.
@@ -114,7 +124,7 @@ impl Dif {
         };
         let (state, node) = (end.state, end.port.node);
         match state {
-            PortState::Allocated => self.close_at(alloc, at, node),
+            PortState::Allocated => self.give_up_flow(alloc, at, node),
             PortState::Pending => {
                 self.withdraw_at(at, node);
                 Ok(())

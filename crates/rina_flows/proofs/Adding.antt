@@ -11,10 +11,10 @@ use Rattle.rina_dif_law.specs.Ids.{Ids}
 use Rattle.rina_dif_law.specs.Lifting.{ticked}
 use Rattle.rina_iface.specs.declared.ends.End.{End}
 use Rattle.rina_law.specs.Direction.{Direction, start}
-use Rattle.rina_flows.specs.Adding.{Adds, begun_now, turned}
+use Rattle.rina_flows.specs.Adding.{Adds, AddsAsker, begun_now, turned}
 use Rattle.rina_flows.specs.Tied.{IsTied, ids_by, ids_of, outward}
-use Rattle.rina_flows.proofs.Added.{tied_both}
-use Rattle.rina_flows.proofs.Lasting.{new_flow}
+use Rattle.rina_flows.proofs.Added.{IsAddition, tied_added, tied_both}
+use Rattle.rina_flows.proofs.Lasting.{new_flow, sending_new}
 use Rattle.rina_flows.proofs.Offered.{flows_of}
 
 -- the names of a new connection, and the direction in which it sends
@@ -40,3 +40,24 @@ pub adds_at : (cube : Cube) (piece max : ℕ) (peer far_peer : Peer) (ends ends'
 adds_at cube piece max peer far_peer ends ends' conns conns' asker far conn its new is there ends_are conns_are =
     let all = adds_from cube piece max peer ends conns asker far conn its new (subst (λ (p : Peer). IsNewConn cube piece max p its) is there) in
     subst (λ (xs : List End). Adds cube piece max peer asker far (flows_of ends conns) (flows_of xs conns')) (sym ends_are) (subst (λ (ks : List Conn). Adds cube piece max peer asker far (flows_of ends conns) (flows_of (ends ++ asker ∷ far ∷ []) ks)) (sym conns_are) all)
+
+-- The end of an asker alone
+
+pub asker_added : (cube : Cube) (piece max : ℕ) (peer : Peer) (ends : List End) (conns : List Conn) (end : End) (conn : Conn) → IsNewConn cube piece max peer conn → AddsAsker cube piece max peer end (flows_of ends conns) (flows_of (ends ++ end ∷ []) (conns ++ conn ∷ []))
+asker_added cube piece max peer ends conns end conn new = λ g now lines t n.
+    let N : ℕ → ℕ → Type 0 = λ x y. IsNewConn cube x y peer conn in
+    let new' : IsNewConn cube (piece_size g) (greatest g) peer conn = subst (λ (y : ℕ). N (piece_size g) y) n.max_is (subst (λ (x : ℕ). N x max) n.piece_is new) in
+    let line : Direction = ticked now (start (outward g conn)) in
+    let addition : IsAddition g now ends conns lines end conn line = record {
+      sends = sending_new g now cube peer conn new' n.is_cube;
+      receives = λ from partner inbound state is p at. absurd (let w = n.waits in cc);
+      received = λ at other k is state p. absurd (n.fresh at other is.end_is p.same_flow);
+    } in
+    record {
+      tied = subst (λ (a : Direction). IsTied g now (ends ++ end ∷ []) (conns ++ conn ∷ []) (lines ++ a ∷ [])) (new_line g now cube piece max peer conn new) (tied_added g now ends conns lines end conn line t addition);
+      ids = map-append ids_of conns (conn ∷ []) ∙ ap (λ (a : Ids). map ids_of conns ++ a ∷ []) (new_ids cube piece max peer conn new);
+    }
+
+pub asker_added_at : (cube : Cube) (piece max : ℕ) (peer : Peer) (ends ends' : List End) (conns conns' : List Conn) (end : End) (conn : Conn) → IsNewConn cube piece max peer conn → ends' ≡ ends ++ end ∷ [] → conns' ≡ conns ++ conn ∷ [] → AddsAsker cube piece max peer end (flows_of ends conns) (flows_of ends' conns')
+asker_added_at cube piece max peer ends ends' conns conns' end conn new ends_are conns_are =
+    subst (λ (xs : List End). AddsAsker cube piece max peer end (flows_of ends conns) (flows_of xs conns')) (sym ends_are) (subst (λ (ks : List Conn). AddsAsker cube piece max peer end (flows_of ends conns) (flows_of (ends ++ end ∷ []) ks)) (sym conns_are) (asker_added cube piece max peer ends conns end conn new))

@@ -37,6 +37,17 @@ AreTied g now flows lines = IsTied g now flows.journal.ends flows.conns lines
 abbrev pub SameIds : Flows → Flows → Type 0
 SameIds old new = conns_of new.conns ≡ conns_of old.conns
 
+-- the CEP-id of the far end is known, and all else of the connection is as before
+pub record IsToldPeer (dcep : ℕ) (old new : Conn) : Type 0 where
+  pub peer : new.sending.form.peer ≡ record old.sending.form.peer { dcep = dcep }
+  pub cube : new.sending.form.cube ≡ old.sending.form.cube
+  pub piece : new.sending.form.piece ≡ old.sending.form.piece
+  pub numbers : new.sending.numbers ≡ old.sending.numbers
+  pub tx : new.sending.tx ≡ old.sending.tx
+  pub rx : new.rx ≡ old.rx
+  pub plan : new.plan ≡ old.plan
+  pub waiting : new.waiting ≡ old.waiting
+
 -- Sending
 
 -- an SDU is offered to a connection

@@ -48,8 +48,6 @@ pub enum AllocateError {
     Busy { port: Port },
     /// The member would need `need` invoke ids or version counts, and has `left`.
     CountSpent { need: u32, left: u32 },
-    /// Flows over DIFs cannot be asked for yet.
-    Unbuilt,
 }
 
 /// Why an SDU was not sent.

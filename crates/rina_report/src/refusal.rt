@@ -80,6 +80,4 @@ pub enum Refusal {
     NoRank,
     /// The application is an IPC process.
     NotYours,
-    /// Flows over DIFs cannot be asked for yet.
-    Unbuilt,
 }
