@@ -5,7 +5,7 @@ TOP = os.path.dirname(os.path.dirname(os.path.realpath(__file__)))
 SOURCE, BASE, HELLO = (f"{TOP}/{it}" for it in ("docs/mistakes.txt", "examples/two-ranks.rlemu", "examples/hello.rlemu"))
 MARK = "\n%%\n"
 # The keys that begin an entry; the others belong to the entry before, or, behind a `cause`, to that cause.
-KINDS = ("rule", "schedule", "toml", "allowed", "refusal", "off", "fail", "state", "clock", "said", "fault")
+KINDS = ("rule", "schedule", "toml", "allowed", "refusal", "off", "fail", "why", "state", "clock", "said", "fault")
 
 
 class Entry:

@@ -45,7 +45,8 @@ the field where that shows: field 0 is the word, and fields stand apart by blank
 NOTES = """
 ## The notes
 
-A refusal is `no NAME FIELDS`, and the run goes on. A write-off is told by `off KEY NAME FIELDS`, a failure by `state LABEL failed NAME FIELDS`.
+A refusal is `no NAME FIELDS`, and the run goes on. A write-off is told by `off KEY NAME FIELDS`, a failure by `state LABEL failed NAME FIELDS`,
+an ask that is refused after `ok pending` by `state LABEL refused NAME FIELDS`.
 `docs/schedules.md` has when each comes; `docs/MY_SDU_DID_NOT_COME.md` has examples of the last two.
 """
 
@@ -99,4 +100,5 @@ def page(entries):
     for it in of("schedule"):
         text += f"\n### {it.words[0]}: {it.texts['says']}\n\n" + causes(it)
     text += NOTES + notes(entries, "refusal", "Refusals") + notes(entries, "off", "Causes of a write-off") + notes(entries, "fail", "Causes of a failure")
+    text += notes(entries, "why", "Why an ask is refused after `ok pending`")
     return text

@@ -33,8 +33,11 @@ SendsBelow same does (Err NoIpc) = same
 SendsBelow same does (Err NoLink) = same
 SendsBelow same does (Err (CountSpent need left)) = same
 
--- a step in: one SDU was passed where a PDU was taken
+-- a step in: one SDU was passed where a PDU was taken. Without memory it was passed or not, since memory may run out behind that
 abbrev pub PassesBelow : Type 0 → (Port → Type 0) → Result InStep StepError → Type 0
 PassesBelow same does (Ok ins.Idle) = same
 PassesBelow same does (Ok (ins.Took key end)) = (port : Port) × does port
-PassesBelow same does (Err e) = same
+PassesBelow same does (Err Memory) = same ⊎ ((port : Port) × does port)
+PassesBelow same does (Err NoIpc) = same
+PassesBelow same does (Err NoLink) = same
+PassesBelow same does (Err (CountSpent need left)) = same

@@ -53,13 +53,13 @@ pub enum ClockStep {
     Idle,
     /// The link of this number was lost: its flow below failed, was closed, or was refused.
     LinkLost { link: u16 },
-    /// A flow that came in below was claimed as the link of this number. No step of a static DIF makes it.
+    /// A flow that came in below was claimed as the link of this number. Only a member that asks for links, or that is asked for one, makes it.
     LinkNew { link: u16 },
     /// The pieces were written off that the connection of this CEP-id held of a state that has ended.
     Gone { cep: Cep },
     /// This number was given up, and its flow failed.
     GaveUp { num: Num },
-    /// The ask at this port ran out of its time. No step of a static DIF makes it.
+    /// The ask at this port ran out of its time. Only flows that are asked for have one.
     Timeout { port: Port },
     /// The connection of this CEP-id made an acknowledgement.
     Ack { cep: Cep },

@@ -126,6 +126,8 @@ start_holds d below kept ends conns s untouched members undrawn housed managed e
         lines_alike = omega (arith, no_ends);
         sends = λ at conn line c l. absurd (none_in at conn d.flows.conns conns c);
         receives = λ at from end conn line is allocated inbound. absurd (none_in at conn d.flows.conns conns is.conn_is);
+        unused = λ at end conn is unused. absurd (none_in at conn d.flows.conns conns is.conn_is);
+        early = λ at from end line is waits inbound. absurd (none_in at end d.flows.journal.ends ends is);
       };
       standing = start_stands (seen_of d) [] below s;
       carrying = start_carries (seen_of d) [] below s;

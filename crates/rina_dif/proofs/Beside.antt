@@ -31,10 +31,12 @@ use Rattle.rina_data.specs.Outgoing.{Goes, IsForwarded, Offs, sent_bytes}
 use Rattle.rina_dif_law.specs.Outgoing.{Outs}
 use Rattle.rina_dif_law.specs.Standing.{IsLinked, IsStanding}
 use Rattle.rina_dif_law.specs.Upward.{IsSilent}
+use Rattle.rina_dif_law.proofs.TurnedDown.{down_silent}
 use Rattle.rina_dif_law.proofs.After.{IsAfter, NoMore, after_none, after_passed, after_sent, no_more_of_others}
 use Rattle.rina_dif_law.proofs.Carries.{after_carries}
 use Rattle.rina_dif_law.proofs.Ends.{same_some}
 use Rattle.rina_dif_law.proofs.Finding.{beside, live_link}
+use Rattle.rina_dif_law.proofs.FarEnds.{none_fresh, silent_on}
 use Rattle.rina_dif_law.proofs.Finishing.{ended_silent}
 use Rattle.rina_dif_law.proofs.Keepers.{facility}
 use Rattle.rina_dif_law.proofs.Lifted.{passes_of_others_account, sends_of_others_account}
@@ -50,12 +52,12 @@ use Rattle.rina_dif.specs.LinkSteps.{DoesLink}
 use Rattle.rina_dif.proofs.Enrolled.{stay_same}
 use Rattle.rina_dif.proofs.ClaimedBelow.{holds_claimed}
 use Rattle.rina_dif.proofs.ClaimedFirst.{no_link_kept, no_link_later}
+use Rattle.rina_dif.proofs.FlowWalk.{clock_kept, flows_clock, flows_silent, silent_rerouted}
 use Rattle.rina_dif.proofs.FreedBelow.{holds_freed}
 use Rattle.rina_flows.specs.declared.flows.Flows.{Flows}
 use Rattle.rina_iface.specs.Later.{IsLater}
 use Rattle.rina_dif.specs.Shown.{seen_of}
 use Rattle.rina_dif.specs.Managing.{StayEnrolled}
-use Rattle.rina_dif.specs.Routing.{MayReroute}
 use Rattle.rina_dif.specs.Taking.{TakesIn}
 use Rattle.rina_dif.specs.Whole.{IsDif}
 use Rattle.rina_dif.proofs.Causing.{LowerStays, caused_on, lower_later, lower_same, none_is}
@@ -185,7 +187,7 @@ pub record IsStep (d : Dif) (below : Seen) (d' : Dif) (below' : Seen) : Type 0 w
 silent_refl : (d : DifSeen) → IsSilent d d
 silent_refl d = record {
   later = fac_refl d.clock d.clock (fac_of d);
-  number = refl;
+  fresh = none_fresh d.ends d.ends refl;
   same = λ i e e' h h'. (let is : e' ≡ e = cc in (ap (λ (z : End). z.sent) is, ap (λ (z : End). z.taken) is));
 }
 
@@ -221,19 +223,17 @@ out_is_step refuses d below i n r d' below' enrolled kept kept' st outs keeps =
       others = λ other lines apart h. holds_aside other lines below below' (outs_aside refuses (seen_of other) (seen_of d) st.0 below i n r (seen_of d') below' kept kept' st.1.standing apart outs) h;
     }
 
--- other next hops are nothing to it
-silent_rerouted : (d mid d' : DifSeen) → MayReroute mid d' → IsSilent d mid → IsSilent d d'
-silent_rerouted d mid d' (inl same) s = subst (IsSilent d) (sym same) s
-silent_rerouted d mid d' (inr r) s = subst (IsSilent d) (sym r.is) (record { later = record { ends = s.later.ends; cubes = s.later.cubes }; number = s.number; same = s.same })
-
 pub in_is_step : (d : Dif) (below : Seen) (i n : ℕ) (r : Result InStep StepError) (d' : Dif) (below' : Seen) → StayEnrolled d.enrolled d'.enrolled → AreKept below → AreKept below' → (st : Stands d below) → TakesIn d st.0 below i n r d' below' → IsStep d below d' below'
 in_is_step d below i n r d' below' enrolled kept kept' st t =
-    let clock = ins_clock (seen_of d) st.0 below i n r (seen_of t.taken) t.lines' below' t.does in
-    let silent = silent_rerouted (seen_of d) (seen_of t.taken) (seen_of d') t.rerouted (ins_silent (seen_of d) st.0 below i n r (seen_of t.taken) t.lines' below' st.1.standing t.does) in
+    let clock = ins_clock (seen_of d) st.0 below i n t.answer (seen_of t.taken) t.between below' t.does in
+    let handled = silent_rerouted (seen_of d) (seen_of t.taken) (seen_of t.handled) t.rerouted (ins_silent (seen_of d) st.0 below i n t.answer (seen_of t.taken) t.between below' st.1.standing t.does) in
+    let before = t.stood.standing.clock ∙ clock ∙ sym st.1.standing.clock in
+    let after = flows_clock t.handled t.between below' i t.told.messages t.told.stopped (record d' { failed = t.handled.failed }) t.lines' t.told.handles in
+    let silent = silent_on (seen_of d) (seen_of t.handled) (seen_of d') (clock_kept d.clock t.handled.clock before) (clock_kept t.handled.clock d'.clock after) handled (flows_silent t.handled t.between below' i t.told.messages t.told.stopped (record d' { failed = t.handled.failed }) t.lines' t.told.handles) in
     record {
       goes_on = record { later = silent.later; facility = facility (seen_of d') t.lines' below' t.holds.standing; clock = t.holds.standing.clock ∙ clock ∙ sym st.1.standing.clock; enrolled = enrolled };
       silent = silent;
-      others = λ other lines apart h. holds_aside other lines below below' (ins_aside (seen_of other) (seen_of d) st.0 below i n r (seen_of t.taken) t.lines' below' kept kept' st.1.standing apart t.does) h;
+      others = λ other lines apart h. holds_aside other lines below below' (ins_aside (seen_of other) (seen_of d) st.0 below i n t.answer (seen_of t.taken) t.between below' kept kept' st.1.standing apart t.does) h;
     }
 
 -- what comes with time
@@ -250,7 +250,8 @@ flow_silent d lines node (step.Message link) new lines' s = absurd s
 
 serves_silent : (d : Dif) (lines : List Direction) (below : Seen) (node : ℕ) (done : ClockStep) (d' : Dif) (lines' : List Direction) (below' : Seen) → Serves d lines below node done d' lines' below' → IsSilent (seen_of d) (seen_of d')
 serves_silent d lines below node done d' lines' below' (inl flow) = flow_silent d lines node done (seen_of d') lines' flow.does
-serves_silent d lines below node done d' lines' below' (inr link) = silent_same (seen_of d) (seen_of d') (ap (λ (z : Dif). (seen_of z).ends) link.0.only) (ap (λ (z : Dif). (seen_of z).config) link.0.only) (ap (λ (z : Dif). (seen_of z).clock) link.0.only)
+serves_silent d lines below node done d' lines' below' (inr (inr ask)) = (let t = ask.0.times_out.turns_down.turned in down_silent (seen_of d) _ _ (seen_of d') t)
+serves_silent d lines below node done d' lines' below' (inr (inl link)) = silent_same (seen_of d) (seen_of d') (ap (λ (z : Dif). (seen_of z).ends) link.0.only) (ap (λ (z : Dif). (seen_of z).config) link.0.only) (ap (λ (z : Dif). (seen_of z).clock) link.0.only)
 
 any_silent : (d : Dif) (lines : List Direction) (below : Seen) (node : ℕ) (done : ClockStep) (d' : Dif) (lines' : List Direction) (below' : Seen) → ServesAny d lines below node done d' lines' below' → IsSilent (seen_of d) (seen_of d')
 any_silent d lines below node done d' lines' below' (inl served) = serves_silent d lines below node done d' lines' below' served.0
@@ -290,7 +291,8 @@ link_over d links below i place (step.Message link) new flows' below' kept kept'
 
 serves_over : (d : Dif) (lines : List Direction) (below : Seen) (node : ℕ) (done : ClockStep) (d' : Dif) (lines' : List Direction) (below' : Seen) → LinksStand d below → AreKept below → AreKept below' → IsLater below below' → Serves d lines below node done d' lines' below' → IsOver below below'
 serves_over d lines below node done d' lines' below' links kept kept' later (inl flow) = over_same below below' flow.same_below
-serves_over d lines below node done d' lines' below' links kept kept' later (inr link) = (let x = link.0.does links in link_over d links.lines below link.0.i x.place done (seen_of d') d'.connections.flows below' kept kept' later x.does)
+serves_over d lines below node done d' lines' below' links kept kept' later (inr (inr ask)) = over_same below below' ask.2
+serves_over d lines below node done d' lines' below' links kept kept' later (inr (inl link)) = (let x = link.0.does links in link_over d links.lines below link.0.i x.place done (seen_of d') d'.connections.flows below' kept kept' later x.does)
 
 any_over : (d : Dif) (lines : List Direction) (below : Seen) (node : ℕ) (done : ClockStep) (d' : Dif) (lines' : List Direction) (below' : Seen) → LinksStand d below → AreKept below → AreKept below' → IsLater below below' → ServesAny d lines below node done d' lines' below' → IsOver below below'
 any_over d lines below node done d' lines' below' links kept kept' later (inl served) = serves_over d lines below node done d' lines' below' links kept kept' later served.0

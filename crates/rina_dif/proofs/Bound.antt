@@ -124,7 +124,7 @@ adds_flow settings id piece max cube peer asker far old new (Err e) is_cube piec
 -- The flow
 
 -- the cube that is found has the id that was asked for
-its_id : (id : ℕ) (cubes : List Cube) (cube : Cube) → cube_by id cubes ≡ Some cube → cube.id ≡ id
+pub its_id : (id : ℕ) (cubes : List Cube) (cube : Cube) → cube_by id cubes ≡ Some cube → cube.id ≡ id
 its_id id [] cube h = cc
 its_id id (c ∷ cs) cube h = elim (eqb_tells c.id id) [
   | inl t ↦ (let is : Some c ≡ Some cube = rw t.0 at h in ap (λ (x : Cube). x.id) (sym (some_cube c cube is)) ∙ t.1)
@@ -184,6 +184,8 @@ module _ (d : Dif) (fixed : Fixed) (may : MayBind d fixed) (near other : NextEnd
         is_cube = ap (λ (x : ℕ). cube_by x g.cubes) id ∙ added.is_cube;
         fresh = λ i e is. new_name seen lines below h.standing h.numbered fixed.a may.of_a i e may.at_a is;
         same_flow = refl;
+        got = refl;
+        far_got = refl;
       } in
       let has = added.adds g d.clock lines h.tied new in
       let line = begun_now g d.clock added.cube peer in

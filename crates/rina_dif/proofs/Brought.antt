@@ -14,6 +14,7 @@ use Rattle.rina_channel.specs.Channels.{ChannelsSeen, HasLive}
 use Rattle.rina_channel.specs.Coming.{IsTaker, LeavesOff, TakesOnLink, TakesPiece}
 use Rattle.rina_channel.specs.Names.{named}
 use Rattle.rina_data.specs.declared.process.IpcProcess.{IpcProcess}
+use Rattle.rina_data.specs.declared.settings.Settings.{Settings}
 use Rattle.rina_data.specs.declared.step.Took.{Took}
 use Rattle.rina_data.specs.declared.step.Took.TheVariants as took
 use Rattle.rina_data.specs.Configs.{config_of}
@@ -32,11 +33,13 @@ use Rattle.rina_iface.specs.Seen.{Seen}
 use Rattle.rina_iface.proofs.Changed.{slice_get-set_same}
 use Rattle.rina_law.specs.Direction.{Direction}
 use Rattle.rina_member.specs.declared.management.Management.{Management}
+use Rattle.rina_member.specs.Knowing.{AreRoutesOf}
 use Rattle.rina_dif.specs.declared.connections.Connections.{Connections}
 use Rattle.rina_dif.specs.declared.dif.Dif.{Dif}
+use Rattle.rina_dif.specs.declared.messages_in.Change.{Change}
 use Rattle.rina_dif.specs.declared.messages_in.Handled.{Handled}
 use Rattle.rina_dif.specs.Connected.{channels_seen}
-use Rattle.rina_dif.specs.Handling.{HandlesInTurn, IsHandled, IsToldAhead, TellsNodes, unpassed_sdus}
+use Rattle.rina_dif.specs.Handling.{HandlesInTurn, IsChange, IsHandled, IsToldAhead, TellsNodes, or_same, told_of, unpassed_sdus}
 use Rattle.rina_dif.specs.Holding.{Holds}
 use Rattle.rina_dif.specs.LinkDue.{IsLinkEnd}
 use Rattle.rina_dif.specs.Shown.{seen_of}
@@ -55,6 +58,14 @@ no_piece k piece ack = absurd cc
 tells_on : (d mid : Dif) (at : ℕ) (after : Management) (o : Option (List ℕ)) → mid.settings ≡ d.settings → mid.managements ≡ d.managements → TellsNodes d at after o → TellsNodes mid at after o
 tells_on d mid at after (Some nodes) settings managements h = h ∙ (λ j. enrolled_nodes (sym settings j).members (states_of (slice_set (sym managements j) at after)))
 tells_on d mid at after None settings managements h = λ m is. h m (ap (λ (ms : List Management). slice_get ms at) (sym managements) ∙ is)
+
+-- and so are the next hops
+changes_on : (d mid : Dif) (at : ℕ) (change : Option Change) → mid.settings ≡ d.settings → mid.managements ≡ d.managements → IfSome change (IsChange d at) → IfSome change (IsChange mid at)
+changes_on d mid at None settings managements h = tt
+changes_on d mid at (Some c) settings managements h = record {
+  routes = subst (λ (s : Settings). AreRoutesOf c.management.agent s.members c.routes) (sym settings) h.routes;
+  enrolled = tells_on d mid at c.management c.enrolled settings managements h.enrolled;
+}
 
 module _ (d : Dif) (at number since : ℕ) (port : Port) (hop : Hop) (lines : List Direction) (below : Seen) (h : Holds d lines below) (kept : AreKept below) (o : IsOldest (config_of d.settings) below port since hop) (lt : at < length d.settings.members) (live : HasLive (seen_of d).processes at number port) (w : Handled) (ahead : BringsAhead d at number since port hop w) where
   abbrev m : ChannelsSeen
@@ -151,7 +162,7 @@ module _ (d : Dif) (at number since : ℕ) (port : Port) (hop : Hop) (lines : Li
     agent : (g : Management) × (slice_get d.managements at ≡ Some g)
     agent = has_agent d lines below at lt h
 
-    told_bodies : (bodies : List (List ℕ)) × IsToldAhead d w.place ahead.its bodies × HandlesInTurn d.clock number (unpassed_sdus end ++ bodies) agent.0 w.management
+    told_bodies : (bodies : List (List ℕ)) × IsToldAhead d w.place ahead.its bodies × HandlesInTurn d.clock number (unpassed_sdus end ++ bodies) agent.0 (or_same agent.0 (told_of w.change))
     told_bodies = ahead.handles agent.0 end agent.1 on.takes.is_conn.end
 
     more : (e : End) × At m.ends w.place e × HasMore m.ends m'.ends w.place told_bodies.0 e
@@ -166,10 +177,10 @@ module _ (d : Dif) (at number since : ℕ) (port : Port) (hop : Hop) (lines : Li
     end_there : At m'.ends w.place its_end
     end_there = ap (λ (es : List End). slice_get es w.place) has_more.is ∙ slice_get-set_same m.ends w.place end its_end on.takes.is_conn.end
 
-    turns : HandlesInTurn d.clock number (unpassed_sdus its_end) agent.0 w.management
+    turns : HandlesInTurn d.clock number (unpassed_sdus its_end) agent.0 (or_same agent.0 (told_of w.change))
     turns =
         let passed = (h.connected.standing.journal.whole w.place end on.takes.is_conn.end).taken in
-        subst (λ (sdus : List (List ℕ)). HandlesInTurn d.clock number sdus agent.0 w.management) (sym (more_unpassed m.ends m'.ends w.place told_bodies.0 end has_more passed)) told_bodies.2
+        subst (λ (sdus : List (List ℕ)). HandlesInTurn d.clock number sdus agent.0 (or_same agent.0 (told_of w.change))) (sym (more_unpassed m.ends m'.ends w.place told_bodies.0 end has_more passed)) told_bodies.2
 
     here : IsLinkEnd mid at w.place number
     here = record {
@@ -191,10 +202,9 @@ module _ (d : Dif) (at number since : ℕ) (port : Port) (hop : Hop) (lines : Li
     is_handled = record {
       here = here;
       handles = λ g e is_g is_e.
-          subst (λ (x : Management). HandlesInTurn d.clock number (unpassed_sdus e) x w.management) (same_Some agent.0 g (sym agent.1 ∙ is_g))
-          (subst (λ (x : End). HandlesInTurn d.clock number (unpassed_sdus x) agent.0 w.management) (same_Some its_end e (sym end_there ∙ is_e)) turns);
-      routes = ahead.routes;
-      enrolled = tells_on d mid at w.management w.enrolled refl refl ahead.enrolled;
+          subst (λ (x : Management). HandlesInTurn d.clock number (unpassed_sdus e) x (or_same x (told_of w.change))) (same_Some agent.0 g (sym agent.1 ∙ is_g))
+          (subst (λ (x : End). HandlesInTurn d.clock number (unpassed_sdus x) agent.0 (or_same agent.0 (told_of w.change))) (same_Some its_end e (sym end_there ∙ is_e)) turns);
+      changes = changes_on d mid at w.change refl refl ahead.changes;
     }
 
 -- where there was something to handle

@@ -137,7 +137,7 @@ caused_on d d' below below' none lower c at end' ids fail is is_ids failed =
 no_more : (xs : List Entry) → xs ≡ xs ++ []
 no_more xs = sym (append-nil xs)
 
-still_failed : (d : DifSeen) (at : ℕ) (end : End) (ids : Ids) (fail : Fail) → At d.ends at end → slice_get d.conns at ≡ Some ids → end.state ≡ Failed fail → HadFailed d at end ids fail
+pub still_failed : (d : DifSeen) (at : ℕ) (end : End) (ids : Ids) (fail : Fail) → At d.ends at end → slice_get d.conns at ≡ Some ids → end.state ≡ Failed fail → HadFailed d at end ids fail
 still_failed d at end ids fail is is_ids failed = record { end = end; is_end = is; is_ids = is_ids; failed = failed; port = refl; more = []; sent = no_more end.sent }
 
 -- no end and no connection changes
@@ -227,7 +227,7 @@ outs_caused refuses d below i n r d' below' kept c s = caused_on d d' below belo
 none_process : (d d' : DifSeen) (i : ℕ) (p' : Process) → d' ≡ record d { processes = slice_set d.processes i p' } → NoneFails d d'
 none_process d d' i p' is = none_same d d' (ap (λ (x : DifSeen). x.ends) is) (ap (λ (x : DifSeen). x.conns) is) (ap (λ (x : DifSeen). x.config) is) (let same = ap (λ (x : DifSeen). x.clock) is in omega (arith, same))
 
-allocated_not : (end : End) (fail : Fail) → end.state ≡ Allocated → end.state ≡ Failed fail → ⊥
+pub allocated_not : (end : End) (fail : Fail) → end.state ≡ Allocated → end.state ≡ Failed fail → ⊥
 allocated_not end fail h g = absurd cc
 
 none_arrived : (d : DifSeen) (lines : List Direction) (i : ℕ) (process : Process) (hop : Hop) (cause : Option Cause) (d' : DifSeen) (lines' : List Direction) → IsArrived d lines i process hop.pdu cause d' lines' → NoneFails d d'

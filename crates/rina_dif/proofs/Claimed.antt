@@ -72,7 +72,7 @@ still_before d waiting lines below i m p k is = record {
   moved = moved_same m.addr k (Resends (seen_of (with_waiting d waiting)) m.addr k.scep) (counts_of (seen_of d) lines below m p k) (counts_of (seen_of (with_waiting d waiting)) lines below m p k) (same_refl (counts_of (seen_of d) lines below m p k));
 }
 
-holds_claimed : (d : Dif) (waiting : Vec ℕ) (lines : List Direction) (below : Seen) → Holds d lines below → Holds (with_waiting d waiting) lines below
+pub holds_claimed : (d : Dif) (waiting : Vec ℕ) (lines : List Direction) (below : Seen) → Holds d lines below → Holds (with_waiting d waiting) lines below
 holds_claimed d waiting lines below h = (let st = h.standing in record {
   tied = h.tied;
   standing = record {

@@ -15,7 +15,7 @@ use Rattle.rina_data.specs.declared.step.StepError.TheVariants as why
 use Rattle.rina_flows.specs.declared.due.Item.{Item}
 use Rattle.rina_dif.specs.declared.dif.Dif.{Dif}
 use Rattle.rina_member.specs.declared.management.Management.{Management}
-use Rattle.rina_dif.specs.Changing.{ManagesStep}
+use Rattle.rina_dif.specs.FlowEnds.{ManagesStep}
 use Rattle.rina_dif.specs.Claiming.{ClaimsFirst, MayHaveClaimed, MayLink, NoLinkComes}
 use Rattle.rina_dif.specs.Clocking.{ClaimsOrServes, NoneLostAt, Serves, ServesAny, ServesAnyHere, StepsHere}
 use Rattle.rina_dif.specs.Elsewhere.{home_of}
@@ -34,7 +34,8 @@ never_told item e = absurd cc
 
 never_lost : (d : Dif) (lines : List Direction) (below : Seen) (node link : ℕ) (d' : Dif) (lines' : List Direction) (below' : Seen) → LinksStand d below → Serves d lines below node (step.LinkLost link) d' lines' below' → ⊥
 never_lost d lines below node link d' lines' below' links (inl flow) = flow.does
-never_lost d lines below node link d' lines' below' links (inr l) = (let x = l.0.does links in never_told x.item x.told)
+never_lost d lines below node link d' lines' below' links (inr (inl l)) = (let x = l.0.does links in never_told x.item x.told)
+never_lost d lines below node link d' lines' below' links (inr (inr ask)) = (let told = ask.0.told in absurd cc)
 
 none_lost : (d : Dif) (lines : List Direction) (below : Seen) (node link : ℕ) (d' : Dif) (lines' : List Direction) (below' : Seen) → LinksStand d below → ServesAny d lines below node (step.LinkLost link) d' lines' below' → ⊥
 none_lost d lines below node link d' lines' below' links (inl served) = never_lost d lines below node link d' lines' below' links served.0
@@ -42,7 +43,8 @@ none_lost d lines below node link d' lines' below' links (inr message) = (let to
 
 never_new : (d : Dif) (lines : List Direction) (below : Seen) (node link : ℕ) (d' : Dif) (lines' : List Direction) (below' : Seen) → LinksStand d below → Serves d lines below node (step.LinkNew link) d' lines' below' → ⊥
 never_new d lines below node link d' lines' below' links (inl flow) = flow.does
-never_new d lines below node link d' lines' below' links (inr l) = (let x = l.0.does links in never_told x.item x.told)
+never_new d lines below node link d' lines' below' links (inr (inl l)) = (let x = l.0.does links in never_told x.item x.told)
+never_new d lines below node link d' lines' below' links (inr (inr ask)) = (let told = ask.0.told in absurd cc)
 
 none_new : (d : Dif) (lines : List Direction) (below : Seen) (node link : ℕ) (d' : Dif) (lines' : List Direction) (below' : Seen) → LinksStand d below → ServesAny d lines below node (step.LinkNew link) d' lines' below' → ⊥
 none_new d lines below node link d' lines' below' links (inl served) = never_new d lines below node link d' lines' below' links served.0
@@ -138,7 +140,10 @@ manages_over (Ok (step.LinkLost link)) at d below mid node new tells m = absurd 
 manages_over (Ok (step.LinkNew link)) at d below mid node new tells m = absurd tells
 manages_over (Ok (step.Timeout port)) at d below mid node new tells m = m
 manages_over (Ok (step.Message link)) at d below mid node new tells m = m
-manages_over (Err e) at d below mid node new tells m = m
+manages_over (Err why.Memory) at d below mid node new tells m = m
+manages_over (Err why.NoIpc) at d below mid node new tells m = absurd tells
+manages_over (Err why.NoLink) at d below mid node new tells m = absurd tells
+manages_over (Err (why.CountSpent need left)) at d below mid node new tells m = absurd tells
 
 module _ {F : Type 0} (claims : F → ℕ → Option Port → F → Type 0) (frees : F → F → Port → Result (Unit {0}) FreeError → Type 0) (old : F) where
   pub then_clocks : (mid new : F) (r : Result ClockStep StepError) → TellsNoLink r → HasAsked claims old mid → FreesBelow (new ≡ mid) (frees mid new) r → ClocksBelow claims frees old r new

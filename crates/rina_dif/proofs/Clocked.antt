@@ -28,7 +28,7 @@ use Rattle.rina_dif.specs.declared.dif.Dif.{Dif}
 use Rattle.rina_dif.specs.Clocking.{FindsFirst, IsDueAt, IsIdle, IsIn, IsTurn, NoneLostAt, StepsFlowHere, StepsHere, earlier}
 use Rattle.rina_dif.specs.Holding.{Holds}
 use Rattle.rina_dif.specs.Shown.{seen_of}
-use Rattle.rina_dif.specs.Changing.{EndsFlow, without_flow_at}
+use Rattle.rina_dif.specs.FlowEnds.{GaveFlowUp, GivesFlowUp, ManagesStep, TellsFar}
 use Rattle.rina_dif.specs.Timely.{AcknowledgesAs, ForgetsAs, GivesUp, GivesUpAs, IsHomeEnd, SendsAgainAs}
 use Rattle.rina_member.specs.declared.management.Management.{Management}
 use Rattle.rina_dif.specs.Unlinking.{AnswersLoss, FindsLostAt, LosesAs}
@@ -263,12 +263,22 @@ never_kept d lines below node at cep d' turn (none, same) =
     let due = turn.first.due.due in
     some_none (given_up (outward (config_of d.settings) due.conn) due.line.line.clock due.line.line.sender) due.number due.is_due (none due.conn due.line due.is_conn due.is_line)
 
--- the object of its flow is deleted
-pub gave_up_managed : (d : Dif) (lines : List Direction) (below : Seen) (i at : ℕ) (num : Num) (d' : Dif) (new : List Management) → at < length d.flows.conns → GivesUp d lines below at num d' → EndsFlow d i at new → new ≡ without_flow_at i num.cep d.managements
-gave_up_managed d lines below i at num d' new lt g ends =
-    let k = there d.flows.conns at lt in
-    let ids = same_some (slice_get (conns_of d.flows.conns) at) (ids_of k.0) g.given_up.ids (ids_at d.flows.conns at k.0 k.1) g.given_up.ids_are in
-    ends k.0 k.1 ∙ ap (λ (n : ℕ). without_flow_at i n d.managements) (ap (λ (z : Ids). z.scep) ids ∙ sym g.cep)
+-- the far end was told, and the object of its flow is deleted
+pub gave_up_managed : (d : Dif) (lines : List Direction) (below : Seen) (i at : ℕ) (num : Num) (d' : Dif) (new : List Management) → IsHomeEnd d i at → GivesUp d lines below at num d' → GivesFlowUp d i at new → GaveFlowUp d i num.cep new
+gave_up_managed d lines below i at num d' new here g gives = record {
+  place = at;
+  end_of = record { end = here.end; is_end = here.is_end; at_home = here.at_home };
+  gives = gives;
+  cep_is = (let ids = same_some (slice_get (conns_of d.flows.conns) at) (ids_of gives.conn) g.given_up.ids (ids_at d.flows.conns at gives.conn gives.is_conn) g.given_up.ids_are in ap (λ (z : Ids). z.scep) ids ∙ sym g.cep);
+}
+
+-- or without memory the far end alone
+pub told_managed : (d : Dif) (below : Seen) (i at node : ℕ) (s : Result ClockStep StepError) (e : StepError) (new : List Management) → IsHomeEnd d i at → (new ≡ d.managements) ⊎ TellsFar d i at new → e ≡ why.Memory → s ≡ Err e → ManagesStep s (Some i) d below node new
+told_managed d below i at node s e new here told wants same =
+    subst (λ (v : Result ClockStep StepError). ManagesStep v (Some i) d below node new) (sym (same ∙ ap (λ (z : StepError). Err z) wants)) (elim told [
+      | inl none ↦ inl none
+      | inr tells ↦ inr (record { place = at; end_of = record { end = here.end; is_end = here.is_end; at_home = here.at_home }; tells = tells })
+    ])
 
 pub does_ack : (d : Dif) (lines : List Direction) (below : Seen) (node at cep : ℕ) (b : Bool) (d' : Dif) → IsTurn Ack d lines node at cep → AcknowledgesAs d lines below at (Ok b) d' → StepsFlowHere d lines below node (Ok (step.Ack cep)) d'
 does_ack d lines below node at cep true d' turn a = record { lines' = a.lines'; does = record { at = at; turn = turn; cause = a.cause; acknowledged = a.acknowledged }; holds = a.holds }

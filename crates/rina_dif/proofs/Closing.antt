@@ -152,12 +152,12 @@ lines_held g now c ps below a place held ends' e off one =
 abbrev IsUnconnected : ℕ → Off → Type 0
 IsUnconnected i off = (cep : ℕ) × (off.cause ≡ causes.NoConnection cep)
 
-unconnected_lawful : (g : Config) (now : ℕ) (conns : List Ids) (addr : ℕ) (links : List Link) (key : Key) (cause : Cause) (cep : ℕ) → cause ≡ causes.NoConnection cep → WasLawful g now conns addr links key cause
-unconnected_lawful g now conns addr links key cause cep is = subst (WasLawful g now conns addr links key) (sym is) tt
+unconnected_lawful : (g : Config) (now : ℕ) (ends : List End) (conns : List Ids) (addr : ℕ) (links : List Link) (key : Key) (cause : Cause) (cep : ℕ) → cause ≡ causes.NoConnection cep → WasLawful g now ends conns addr links key cause
+unconnected_lawful g now ends conns addr links key cause cep is = subst (WasLawful g now ends conns addr links key) (sym is) tt
 
 lines_lawful : (d : DifSeen) (i : ℕ) (p : Process) (offs : List Off) → slice_get d.processes i ≡ Some p → ((off : Off) → In off offs → IsUnconnected i off) → AreWrittenOff d → AreWrittenOff (with_process d i (with_offs p offs))
 lines_lawful d i p offs is each w =
-    written_on IsUnconnected d (with_process d i (with_offs p offs)) (process_noted IsUnconnected d (with_process d i (with_offs p offs)) i p (with_offs p offs) offs refl is refl each (ports_same p.links p.links refl)) (λ j off u member process q. inl (unconnected_lawful d.config d.clock d.conns member.addr process.links off.key off.cause u.0 u.1)) w
+    written_on IsUnconnected d (with_process d i (with_offs p offs)) (process_noted IsUnconnected d (with_process d i (with_offs p offs)) i p (with_offs p offs) offs refl is refl each (ports_same p.links p.links refl)) (λ j off u member process q. inl (unconnected_lawful d.config d.clock d.ends d.conns member.addr process.links off.key off.cause u.0 u.1)) w
 
 -- one is
 one_closed : (d : Dif) (lines : List Direction) (below : Seen) (i : ℕ) (p : IpcProcess) (port : Port) (place : ℕ) (flows : Flows) (ledger : List Off) (room : ℕ) → Holds d lines below → slice_get d.processes i ≡ Some p → IsOpenOn d.connections port place → length p.ledger + held_at (Some place) d.connections.flows ≤ room → ClosesIn d.clock (Some place) d.connections.flows p.ledger room flows ledger → HasClosed d lines below i p port flows ledger (held_at (Some place) d.connections.flows)

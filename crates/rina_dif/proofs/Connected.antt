@@ -120,6 +120,8 @@ none_so_far g now c ps below channels ends conns clock may numbered based =
         lines_alike = omega (arith, no_ends);
         sends = λ at conn line x l. absurd (none_in c.flows.conns at conn conns x);
         receives = λ at from end conn line is allocated inbound. absurd (none_in c.flows.conns at conn conns is.conn_is);
+        unused = λ at end conn is unused. absurd (none_in c.flows.conns at conn conns is.conn_is);
+        early = λ at from end line is waits inbound. absurd (none_in c.flows.journal.ends at end ends is);
       };
       standing = none_stand (channels_seen g now c) [] ps below (record { managed = may.managed; clock = clock; channels = channels; ends = ends; ids = ap conns_of conns; lines_are = refl; numbered = numbered; based = based });
       paired = λ l side channel is. absurd (none_in c.channels (end_place l side) channel channels is);

@@ -24,7 +24,8 @@ use Rattle.rina_dif_law.specs.Losing.{FailFirst, IsAllocatedAt, MayFail}
 use Rattle.rina_dif_law.specs.Sending.{home}
 use Rattle.rina_dif_law.specs.Upward.{IsSilent}
 use Rattle.rina_dif_law.proofs.Founding.{failed_accounted}
-use Rattle.rina_dif_law.proofs.Linkless.{failed_carries, failed_numbered, failed_silent, failed_stands, first_stay, silent_on}
+use Rattle.rina_dif_law.proofs.FarEnds.{silent_on}
+use Rattle.rina_dif_law.proofs.Linkless.{failed_carries, failed_numbered, failed_silent, failed_stands, first_stay}
 use Rattle.rina_dif_law.proofs.Upper.{silent_same}
 use Rattle.rina_dif_law.proofs.Warranted.{failed_written}
 use Rattle.rina_flows.specs.declared.flows.Flows.{Flows}

@@ -107,7 +107,7 @@ many_managements d is = is.stands.1.managed.aligned
 pub entered_within : (d : Dif) → IsDif d → (app : List ℕ) (address at : ℕ) (new : List Management) → new ≡ map (entered app address) d.managements → at < length d.settings.members → at < length new
 entered_within d is app address at new new_is lt = (let many = many_managements d is in let long = ap (λ (ms : List Management). length ms) new_is ∙ length-map d.managements (entered app address) in omega (arith, many, long, lt))
 
-changed_length : (at : ℕ) (f : Management → Management) (ms : List Management) → length (changed_at at f ms) ≡ length ms
+pub changed_length : (at : ℕ) (f : Management → Management) (ms : List Management) → length (changed_at at f ms) ≡ length ms
 changed_length at f ms = go (slice_get ms at)
   where
     go : (o : Option Management) → length (changed_if o at f ms) ≡ length ms

@@ -1,5 +1,5 @@
 -- What a call at a DIF leaves as it was.
-use Rattle.std.proofs.Common.{◌≡◌, ◌∙◌, ℕ, ◌<◌, true, List, [], ◌∷◌, length, get_or, map, option_map, slice_get, slice_set, Result, Ok, Err, Option, Some, None, refl, sym, ap, subst, arith}
+use Rattle.std.proofs.Common.{◌≡◌, ◌∙◌, ℕ, ◌<◌, true, List, [], ◌∷◌, length, get_or, map, option_map, slice_get, slice_set, Result, Ok, Err, Option, Some, None, refl, sym, ap, subst, arith, inl}
 use Rattle.std.specs.Prelude.{is_err}
 use Rattle.std.proofs.lemmas.List.{length-map, map-set}
 use Rattle.std.proofs.lemmas.List.Quantifiers.{position-Some}
@@ -41,7 +41,7 @@ use Rattle.rina_flows.proofs.Elsewhere.{by_change, by_more, by_none, by_set}
 use Rattle.rina_dif.specs.declared.dif.Dif.{Dif}
 use Rattle.rina_dif.specs.declared.processes.LinkLoss.{LinkLoss}
 use Rattle.rina_dif.specs.Clocking.{IsTurn}
-use Rattle.rina_dif.specs.Elsewhere.{ChangesOnly, ChangesProcess, IsEndOf, IsOfCep, IsPortAt, IsTaker, MayClock, MayTake, WhenOk, home_of}
+use Rattle.rina_dif.specs.Elsewhere.{ChangesOnly, ChangesProcess, IsEndHere, IsEndOf, IsOfCep, IsPortAt, IsTaker, MayClock, MayTake, WhenOk, home_of}
 use Rattle.rina_dif.specs.Holding.{Stands}
 use Rattle.rina_dif.specs.Taking.{ArrivesTo, Comes, DecidesAt, IsOwn, NotesAt}
 use Rattle.rina_dif.specs.Timely.{ForwardsAt, GivesUp, IsHomeEnd, SendsAgain, WithLedger}
@@ -215,14 +215,14 @@ after_deciding r d ps d' at key before h =
 
 -- memory was not found for it
 pub in_failed : (r : Result InStep StepError) (e : StepError) (d d' : Dif) (o : Option ℕ) → r ≡ Err e → ChangesOnly (λ i. ⊥) o d d' → ChangesOnly (MayTake r d o) o d d'
-in_failed r e d d' o is h = subst (λ (z : Result InStep StepError). ChangesOnly (MayTake z d o) o d d') (sym is) h
+in_failed r e d d' o is h = subst (λ (z : Result InStep StepError). ChangesOnly (MayTake z d o) o d d') (sym is) (only_more (λ i. ⊥) (MayTake (Err e) d o) o d d' (λ i none. absurd none) h)
 
 pub in_noted : (r r' : Result InStep StepError) (d d' : Dif) (node at : ℕ) → home_of d node ≡ Some at → r' ≡ r → ChangesOnly (MayTake r d (Some at)) (Some at) d d' → ChangesOnly (MayTake r' d (home_of d node)) (home_of d node) d d'
 in_noted r r' d d' node at here same h =
     subst (λ (o : Option ℕ). ChangesOnly (MayTake r' d o) o d d') (sym here) (subst (λ (z : Result InStep StepError). ChangesOnly (MayTake z d (Some at)) (Some at) d d') (sym same) h)
 
 pub in_took : (key key' : Key) (end : Took) (d d' : Dif) (o : Option ℕ) → key' ≡ key → ChangesOnly (IsTaker d o key) o d d' → ChangesOnly (MayTake (Ok (ins.Took key' end)) d o) o d d'
-in_took key key' end d d' o same h = subst (λ (k : Key). ChangesOnly (IsTaker d o k) o d d') (sym same) h
+in_took key key' end d d' o same h = only_more (IsTaker d o key) (IsEndHere d o) o d d' (λ i taker. inl taker.end_of) h
 
 -- the IPC process handled messages of management besides
 pub in_handled : (done : InStep) (d mid d' : Dif) (at : ℕ) → ChangesOnly (MayTake (Ok done) d (Some at)) (Some at) d mid → d' ≡ record mid { processes = d'.processes; connections = record mid.connections { flows = d'.connections.flows }; managements = d'.managements; enrolled = d'.enrolled } → ChangesProcess (Some at) mid.processes d'.processes → ChangesOnly (MayTake (Ok done) d (Some at)) (Some at) d d'

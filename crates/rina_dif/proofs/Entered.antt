@@ -21,9 +21,9 @@ use Rattle.rina_dif.specs.declared.dif.Dif.{Dif}
 use Rattle.rina_dif.specs.Changing.{BindsManaged, ManagesBind, MayHaveEntered, MayHoldFar, with_flow_at}
 use Rattle.rina_dif.specs.Elsewhere.{home_of}
 use Rattle.rina_dif.specs.Managing.{AreManagedBy, IsManaged, agents_of}
-use Rattle.rina_member.specs.Short.{TellsNeighbours}
+use Rattle.rina_member.specs.Short.{TellsShort}
 use Rattle.rina_dif.proofs.Managed.{changed_agents, its_agent, same_some}
-use Rattle.rina_member.proofs.TellsNear.{enters_near}
+use Rattle.rina_member.proofs.Tells.{enters_short}
 
 -- What each member then holds
 
@@ -58,16 +58,16 @@ managed_entered is_static members plans now ps old new app address name small h 
   each = λ k m p g is_m is_p is_g.
       let was = its_agent members old k m h.aligned is_m in
       let one : IsManaged is_static members plans now m p was.0 = h.each k m p was.0 is_m is_p was.1 in
-      let managed : (a : Agent) → a ≡ g.agent → a.links ≡ was.0.agent.links → Knows now m p.links a → AreRoutesOf a members p.routes → TellsNeighbours a → IsManaged is_static members plans now m p g = λ a is same knows routes tells. record {
+      let managed : (a : Agent) → a ≡ g.agent → a.links ≡ was.0.agent.links → Knows now m p.links a → AreRoutesOf a members p.routes → TellsShort a → IsManaged is_static members plans now m p g = λ a is same knows routes tells. record {
         knows = subst (λ (z : Agent). Knows now m p.links z) is knows;
         planned = λ still. subst (λ (z : Agent). IsPlanned members plans m p.links z) is (planned_links members plans m p.links was.0.agent a same (one.planned still));
         bounded = one.bounded;
         routes = subst (λ (z : Agent). AreRoutesOf z members p.routes) is routes;
-        tells = subst (λ (z : Agent). TellsNeighbours z) is tells;
+        tells = subst (λ (z : Agent). TellsShort z) is tells;
       } in
       elim (may.each k was.0 g was.1 is_g) [
         | inl same ↦ managed was.0.agent (sym same) refl one.knows one.routes one.tells
-        | inr took ↦ managed (takes_item was.0.agent (entry_of app address)) (sym took) refl (enters now m p.links was.0.agent app address one.knows) (enters_routed now m p.links was.0.agent members p.routes app address one.knows one.routes) (enters_near app address was.0.agent name small one.tells)
+        | inr took ↦ managed (takes_item was.0.agent (entry_of app address)) (sym took) refl (enters now m p.links was.0.agent app address one.knows) (enters_routed now m p.links was.0.agent members p.routes app address one.knows one.routes) (enters_short was.0.agent app address one.tells name small)
       ];
 }
 

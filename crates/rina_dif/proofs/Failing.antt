@@ -6,7 +6,8 @@ use Rattle.rina_iface.specs.declared.ends.End.{End}
 use Rattle.rina_iface.specs.declared.state.Fail.{Fail}
 use Rattle.rina_iface.specs.declared.state.Fail.TheVariants.{Below, GaveUp}
 use Rattle.rina_iface.specs.declared.state.PortState.{PortState}
-use Rattle.rina_iface.specs.declared.state.PortState.TheVariants.{Failed}
+use Rattle.rina_iface.specs.declared.state.PortState.TheVariants.{Failed, Refused}
+use Rattle.rina_iface.specs.declared.state.Why.{Why}
 use Rattle.rina_iface.specs.Journal.{At}
 use Rattle.rina_iface.specs.Seen.{Seen}
 use Rattle.rina_iface.proofs.Changed.{set_at, slice_get-set_other}
@@ -23,6 +24,7 @@ use Rattle.rina_data.specs.declared.step.StepError.{StepError}
 use Rattle.rina_data.specs.declared.step.StepError.TheVariants as why
 use Rattle.rina_data.specs.Configs.{config_of, cube_by}
 use Rattle.rina_dif_law.specs.Dif.{DifSeen, constants}
+use Rattle.rina_dif_law.specs.Answering.{IsTurnedDown}
 use Rattle.rina_dif_law.specs.Ending.{IsGivenUp}
 use Rattle.rina_dif_law.specs.Losing.{IsAllocatedAt}
 use Rattle.rina_dif_law.specs.Sending.{home}
@@ -32,7 +34,7 @@ use Rattle.rina_dif.specs.declared.dif.Dif.{Dif}
 use Rattle.rina_dif.specs.Clocking.{ClockSteps, FailsBelow, FailsLate, IsLate, Serves, ServesAny, Steps, StepsFlow, StepsHere, StepsLost, StepsOk}
 use Rattle.rina_dif.specs.Elsewhere.{home_of}
 use Rattle.rina_dif.specs.Holding.{Holds}
-use Rattle.rina_dif.specs.Changing.{ManagesStep}
+use Rattle.rina_dif.specs.FlowEnds.{ManagesStep}
 use Rattle.rina_dif.specs.Shown.{seen_of}
 use Rattle.rina_dif.specs.Steps.{AtHome}
 use Rattle.rina_dif.specs.Unlinking.{NoneLeft, links_without}
@@ -120,6 +122,22 @@ late_flow d lines below node (step.LinkNew link) new lines' h s = absurd s
 late_flow d lines below node (step.Timeout port) new lines' h s = absurd s
 late_flow d lines below node (step.Message link) new lines' h s = absurd s
 
+-- one was refused
+refused_not : (why : Why) (fail : Fail) (state : PortState) → state ≡ Refused why → state ≡ Failed fail → ⊥
+refused_not why fail state a b = absurd cc
+
+late_turned : (d : Dif) (lines : List Direction) (below : Seen) (at : ℕ) (why : Why) (new : DifSeen) → IsTurnedDown (seen_of d) at (Refused why) new → Late d lines below new.ends
+unfolding Late
+late_turned d lines below at why new t k end end' fail old is failed =
+    let changed : End = record t.end { state = Refused why } in
+    let ends : new.ends ≡ slice_set d.flows.journal.ends at changed = ap (λ (z : DifSeen). z.ends) t.new_is in
+    elim (set_at d.flows.journal.ends at k t.end changed end' t.is_end (subst (λ (es : List End). slice_get es k ≡ Some end') ends is)) [
+      | inl x ↦ absurd (refused_not why fail end'.state (ap (λ (e : End). e.state) x.1) failed)
+      | inr f ↦
+          (let same : end' ≡ end = same_some (slice_get d.flows.journal.ends k) end' end f.1 old in
+          inl (ap (λ (e : End). e.state) (sym same) ∙ failed))
+    ]
+
 -- all of a node have failed
 below_one : (d : Dif) (lines : List Direction) (below : Seen) (node number : ℕ) (d' : Dif) (s : StepsLost d lines below node number d') (at : ℕ) (fail : Fail) → NoneLeft (links_without s.loses.loses.loses.process.links s.loses.loses.loses.place s.loses.loses.loses.link) below s.loses.loses.loses.link.port → IsAllocatedAt d.flows.journal.ends node at → fail ≡ Below s.loses.loses.loses.link.port → FailsBelow d below at fail
 below_one d lines below node number d' s at fail left a is =
@@ -158,7 +176,8 @@ late_lost d lines below node number d' s at end end' fail old is failed =
 
 late_served : (d : Dif) (lines : List Direction) (below mid : Seen) (node : ℕ) (done : ClockStep) (d' : Dif) (lines' : List Direction) (below' : Seen) → Holds d lines below → Serves d lines mid node done d' lines' below' → Late d lines below d'.flows.journal.ends
 late_served d lines below mid node done d' lines' below' h (inl flow) = late_flow d lines below node done (seen_of d') lines' h flow.does
-late_served d lines below mid node done d' lines' below' h (inr link) = late_same d lines below d'.flows.journal.ends (ap (λ (z : Dif). z.flows.journal.ends) link.0.only)
+late_served d lines below mid node done d' lines' below' h (inr (inr ask)) = (let t = ask.0.times_out.turns_down.turned in late_turned d lines below _ _ (seen_of d') t)
+late_served d lines below mid node done d' lines' below' h (inr (inl link)) = late_same d lines below d'.flows.journal.ends (ap (λ (z : Dif). z.flows.journal.ends) link.0.only)
 
 late_any : (d : Dif) (lines : List Direction) (below mid : Seen) (node : ℕ) (done : ClockStep) (d' : Dif) (lines' : List Direction) (below' : Seen) → Holds d lines below → ServesAny d lines mid node done d' lines' below' → Late d lines below d'.flows.journal.ends
 late_any d lines below mid node done d' lines' below' h (inl served) = late_served d lines below mid node done d' lines' below' h served.0
@@ -222,8 +241,12 @@ steps_home d lines below node i r r' d' below' failed alive only here same s man
     let there : ManagesStep r (home_of d node) d below node d'.managements = subst (λ (o : Option ℕ). ManagesStep r o d below node d'.managements) (sym here) managed in
     subst (λ (v : Result ClockStep StepError). ClockSteps d lines below node v (record d' { failed = failed }) below') (sym same) (steps_by d lines below node i r d' below' failed alive only here s there)
 
+none_managed : (d : Dif) (below : Seen) (node : ℕ) (o : Option ℕ) → ManagesStep (Err why.Memory) o d below node d.managements
+none_managed d below node (Some at) = inl refl
+none_managed d below node None = refl
+
 pub steps_none : (d : Dif) (lines : List Direction) (below : Seen) (node : ℕ) → Holds d lines below → ClockSteps d lines below node (Err why.Memory) d below
-steps_none d lines below node h = record { lines' = lines; does = (refl, refl, inl refl); managed = refl; holds = h }
+steps_none d lines below node h = record { lines' = lines; does = (refl, refl, inl refl); managed = none_managed d below node (home_of d node); holds = h }
 
 pub steps_nowhere : (d : Dif) (lines : List Direction) (below : Seen) (node : ℕ) → home node (config_of d.settings).members ≡ None → Holds d lines below → ClockSteps d lines below node (Err why.NoIpc) d below
 steps_nowhere d lines below node none h = record { lines' = lines; does = not_home (home node (config_of d.settings).members) (λ i. StepsOk d lines below node (Err why.NoIpc) d lines below) _ none (refl, refl, refl, refl); managed = refl; holds = h }

@@ -179,7 +179,7 @@ plan_first plan i dif d old new ports linked sound at laid so = record {
 }
 
 pub plan_floods : StartIsRun → (plan : Plan) (i : ℕ) (dif : DifPlan) (d : Dif) (old new : Seen) (ports : List (Port × Port)) (linked : List IpcProcess) (manage : Cube) → IsPlan plan → slice_get plan.difs i ≡ Some dif → IsLaidOut d.settings.members dif.links → AreLaid plan dif d.settings dif.links old new ports linked → AreLinkedUp d.settings (ends_of ports) d.processes
-    → AreStarted dif.is_static d.settings.cubes d.settings.members dif.links dif.rules dif.allow (length d.settings.members) linked d.managements → d.laid ≡ record { is_static = dif.is_static; links = dif.links } → HaveConnections d.settings manage ports d.processes d.connections → AreConnected (config_of d.settings) d.clock d.connections (seen_of d).processes new → AreFlooding d
+    → AreStarted dif.is_static d.settings.cubes d.settings.members dif.links dif.rules dif.allow (length d.settings.members) linked d.managements → d.laid ≡ record { is_static = dif.is_static; links = dif.links; wait = dif.wait } → HaveConnections d.settings manage ports d.processes d.connections → AreConnected (config_of d.settings) d.clock d.connections (seen_of d).processes new → AreFlooding d
 plan_floods start plan i dif d old new ports linked manage sound at out laid up so same have connected =
     let all : AreEnds d.settings.members (map (link_end d.processes) d.connections.channels) = are_ends d manage ports ports new have connected up in
     let ends = d.connections.flows.journal.ends in

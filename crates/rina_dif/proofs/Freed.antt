@@ -14,7 +14,7 @@ use Rattle.rina_iface.specs.declared.state.PortState.TheVariants.{Pending, Alloc
 use Rattle.rina_iface.specs.Ends.{place_in}
 use Rattle.rina_iface.specs.Free.{Frees}
 use Rattle.rina_iface.specs.Free as free
-use Rattle.rina_iface.specs.Journal.{At, IsWhole}
+use Rattle.rina_iface.specs.Journal.{At, HasPartner, IsWhole}
 use Rattle.rina_iface.specs.Later.{IsLaterFac, Moves}
 use Rattle.rina_iface.specs.Seen.{Seen, with_fac}
 use Rattle.rina_iface.specs.State.{freed, freed_state, with_state}
@@ -37,19 +37,22 @@ use Rattle.rina_dif_law.proofs.Carrying.{carrying_same, end_set, line_was}
 use Rattle.rina_dif_law.proofs.Finding.{beside}
 use Rattle.rina_data.proofs.Finding.{there}
 use Rattle.rina_dif_law.proofs.Finishing.{ended_carries, ended_stands}
-use Rattle.rina_dif_law.proofs.Journals.{IsConst, const_refl, journal_set, partner_was, ports_set, was_end}
+use Rattle.rina_dif_law.proofs.Journals.{IsConst, const_refl, journal_set, partner_const, partner_was, ports_set, was_end}
 use Rattle.rina_dif_law.proofs.Keepers.{facility}
 use Rattle.rina_dif_law.proofs.Numbering.{ended_numbered, numbered_with}
 use Rattle.rina_dif_law.specs.Places.{IsUp}
 use Rattle.rina_dif_law.proofs.OwnEnds.{own_ended, own_restated}
 use Rattle.rina_dif_law.proofs.HeldIds.{ended_held, rest_drawn}
 use Rattle.rina_dif_law.proofs.Receiving.{ended_accounted, reheld_accounted, restated_accounted}
+use Rattle.rina_dif_law.specs.WriteOffLaws.{Nothing}
 use Rattle.rina_dif_law.specs.Written.{AreWrittenOff}
 use Rattle.rina_dif_law.proofs.Warranted.{ended_written}
+use Rattle.rina_dif_law.proofs.Writing.{known_set, quiet_noted, written_on}
 use Rattle.rina_flows.specs.declared.flows.Flows.{Flows}
 use Rattle.rina_flows.specs.Delivering.{StopsIn}
 use Rattle.rina_flows.specs.Tied.{IsTied, ids_of}
 use Rattle.rina_flows.proofs.Gone.{is_ended}
+use Rattle.rina_flows.proofs.Unused.{unused_was}
 use Rattle.rina_dif.specs.declared.dif.Dif.{Dif}
 use Rattle.rina_dif.specs.declared.release.IdRest.{IdRest}
 use Rattle.rina_ids.specs.Ids.{IsInUse}
@@ -161,8 +164,8 @@ closed_used d i at node rest is within ends here rests ids are_ids = used_until 
 
 -- Any other end is at most withdrawn
 
-restated_tied : (g : Config) (now at : ℕ) (ends : List End) (conns : List Conn) (lines : List Direction) (end end' : End) → IsTied g now ends conns lines → At ends at end → IsConst end end' → end'.state ≢ Allocated → IsTied g now (slice_set ends at end') conns lines
-restated_tied g now at ends conns lines end end' t is const not = record {
+pub restated_tied : (g : Config) (now at : ℕ) (ends : List End) (conns : List Conn) (lines : List Direction) (end end' : End) → IsTied g now ends conns lines → At ends at end → IsConst end end' → end'.state ≢ Allocated → end'.state ≢ Pending → end'.got ≡ end.got → IsTied g now (slice_set ends at end') conns lines
+restated_tied g now at ends conns lines end end' t is const not awake got = record {
   alike = t.alike ∙ sym (length-set ends at end');
   lines_alike = t.lines_alike ∙ sym (length-set ends at end');
   sends = t.sends;
@@ -171,6 +174,21 @@ restated_tied g now at ends conns lines end end' t is const not = record {
       elim (set_at ends at k end end' e is here.end_is) [
         | inl x ↦ absurd (not (ap (λ (z : End). z.state) (sym x.1) ∙ allocated))
         | inr x ↦ t.receives k from e conn line (record { end_is = x.1; conn_is = here.conn_is }) allocated (record { partner = o.0; is_partner = o.1; partners = partner_was o.0 e inbound.partner e o.2 (const_refl e) inbound.partners; is_line = inbound.is_line })
+      ];
+  unused = λ k e conn here unused.
+      let was = unused_was ends at end end' is const e unused in
+      elim (set_at ends at k end end' e is here.end_is) [
+        | inl x ↦
+            let alone : HasPartner ends end → ⊥ = λ h. elim was [ inl waits ↦ awake (ap (λ (z : End). z.state) (sym x.1) ∙ waits) | inr none ↦ none (subst (HasPartner ends) (sym x.1) (record { place = h.place; other = h.other; stands = h.stands; partner = partner_const end h.other end' h.other const (const_refl h.other) h.partner })) ] in
+            let new = t.unused at end conn (record { end_is = is; conn_is = subst (λ (n : ℕ). slice_get conns n ≡ Some conn) x.0 here.conn_is }) (inr alone) in
+            record { new = new.new; got = ap (λ (z : End). z.got) x.1 ∙ got ∙ new.got }
+        | inr x ↦ t.unused k e conn (record { end_is = x.1; conn_is = here.conn_is }) was
+      ];
+  early = λ k from e line here waits inbound.
+      let o = was_end ends at end end' is const from inbound.partner inbound.is_partner in
+      elim (set_at ends at k end end' e is here) [
+        | inl x ↦ absurd (awake (ap (λ (z : End). z.state) (sym x.1) ∙ waits))
+        | inr x ↦ t.early k from e line x.1 waits (record { partner = o.0; is_partner = o.1; partners = partner_was o.0 e inbound.partner e o.2 (const_refl e) inbound.partners; is_line = inbound.is_line })
       ];
 }
 
@@ -200,14 +218,6 @@ restated_stands : (d : DifSeen) (lines : List Direction) (below : Seen) (at : �
 restated_stands d lines below at end state st is old was down not =
     let cloud : ℕ → Pdu → Type 0 = Cloud Everywhere d.config d.processes below in
     restated_with d lines below at end state d.ids st is old not (own_restated d.config d.clock cloud d.ids d.ends d.conns lines st.own at end is state was down)
-
--- an end that waits
-withdrawn_stands : (d : DifSeen) (lines : List Direction) (below : Seen) (at : ℕ) (end : End) (state : PortState) (held : List CepIds) → IsStanding d lines below → IsNumbered d below → (is : At d.ends at end) → end.state ≢ Allocated → IsUp end.state → (IsUp state → ⊥) → state ≢ Allocated → GivesBack d at end held → IsStanding (record d { ends = slice_set d.ends at (with_state end state); ids = held }) lines below
-withdrawn_stands d lines below at end state held st n is old up down not gives =
-    let cloud : ℕ → Pdu → Type 0 = Cloud Everywhere d.config d.processes below in
-    let c = beside d.ends d.conns at end st.own.alike is in
-    let conn : IsConn d.ends d.conns at end c.0 = record { end = is; ids_are = c.1 } in
-    restated_with d lines below at end state held st is old not (own_ended d.config d.clock cloud d.ids d.ends d.conns lines st.own at end c.0 conn up state down held (ended_held d below (Naming (IsOfFlow d.config) cloud) st.own.flows at end c.0 held n conn gives st.own.ledger st.own.kept))
 
 restated_carries : (d : DifSeen) (lines : List Direction) (below : Seen) (at : ℕ) (end : End) (state : PortState) (held : List CepIds) → IsCarrying d lines below → At d.ends at end → IsCarrying (record d { ends = slice_set d.ends at (with_state end state); ids = held }) lines below
 restated_carries d lines below at end state held c is =
@@ -249,6 +259,19 @@ not_up (Refused why) not still up = up
 not_up (Failed fail) not still up = up
 not_up Closed not still up = up
 
+-- an end that is freed waits no more, so what the ledgers say stays true
+freed_waits : (state : PortState) → freed_state state ≡ Pending → state ≡ Pending
+freed_waits Pending e = refl
+freed_waits Allocated e = absurd cc
+freed_waits (Refused why) e = e
+freed_waits (Failed fail) e = e
+freed_waits Closed e = e
+
+freed_written : (d : DifSeen) (at : ℕ) (end : End) (held : List CepIds) → slice_get d.ends at ≡ Some end → AreWrittenOff d → AreWrittenOff (record d { ends = slice_set d.ends at (freed end); ids = held })
+freed_written d at end held is w =
+    let d' : DifSeen = record d { ends = slice_set d.ends at (freed end); ids = held } in
+    written_on Nothing d d' (quiet_noted Nothing d d' refl refl (omega arith) (known_set d.ends d.conns at end (freed end) is (freed_waits end.state)) refl) (λ i off none. absurd none) w
+
 -- the flows where the end at a place is freed, whatever the CEP-ids are then
 module _ (d : Dif) (at : ℕ) (end : End) (flows : Flows) (held : List CepIds) (is : slice_get d.flows.journal.ends at ≡ Some end) (not : end.state ≢ Allocated) (conns : flows.conns ≡ d.flows.conns) (ends : flows.journal.ends ≡ slice_set d.flows.journal.ends at (freed end)) (lines : List Direction) (below : Seen) (h : Holds d lines below) where
   abbrev freed_ends : List End
@@ -262,13 +285,13 @@ module _ (d : Dif) (at : ℕ) (end : End) (flows : Flows) (held : List CepIds) (
 
   freed_holds : IsStanding (record (seen_of d) { ends = freed_ends; ids = held }) lines below → IsNumbered (record (seen_of d) { ends = freed_ends; ids = held }) below → IsAccounted (record (seen_of d) { ends = freed_ends; ids = held }) lines below → IsCarrying (record (seen_of d) { ends = freed_ends; ids = held }) lines below → AreCaused (record (seen_of d) { ends = freed_ends; ids = held }) below → Holds freed_dif lines below
   freed_holds standing numbered accounted carrying caused = record {
-    tied = subst (λ (xs : List End). IsTied (config_of d.settings) d.clock xs flows.conns lines) (sym ends) (subst (λ (ks : List Conn). IsTied (config_of d.settings) d.clock freed_ends ks lines) (sym conns) (restated_tied (config_of d.settings) d.clock at d.flows.journal.ends d.flows.conns lines end (freed end) h.tied is (record { flow = refl; role = refl; port = refl; app = refl; peer = refl; cube = refl }) (freed_not end.state)));
+    tied = subst (λ (xs : List End). IsTied (config_of d.settings) d.clock xs flows.conns lines) (sym ends) (subst (λ (ks : List Conn). IsTied (config_of d.settings) d.clock freed_ends ks lines) (sym conns) (restated_tied (config_of d.settings) d.clock at d.flows.journal.ends d.flows.conns lines end (freed end) h.tied is (record { flow = refl; role = refl; port = refl; app = refl; peer = refl; cube = refl }) (freed_not end.state) (λ waits. freed_down end.state (subst IsUp (sym waits) tt)) refl));
     standing = subst (λ (z : DifSeen). IsStanding z lines below) (sym freed_seen) standing;
     carrying = subst (λ (z : DifSeen). IsCarrying z lines below) (sym freed_seen) carrying;
     numbered = subst (λ (z : DifSeen). IsNumbered z below) (sym freed_seen) numbered;
     accounted = subst (λ (z : DifSeen). IsAccounted z lines below) (sym freed_seen) accounted;
     caused = subst (λ (z : DifSeen). AreCaused z below) (sym freed_seen) caused;
-    written_off = subst AreWrittenOff (sym freed_seen) (λ i m p off it stands. h.written_off i m p off (record { is_member = it.is_member; is_process = it.is_process }) stands);
+    written_off = subst AreWrittenOff (sym freed_seen) (freed_written (seen_of d) at end held is h.written_off);
     housed = h.housed;
     managed = h.managed;
     enrolled = h.enrolled;
@@ -289,33 +312,6 @@ withdraws d at end flows is not still conns ends lines below h =
           (restated_accounted (seen_of d) lines below at end (freed_state end.state) h.accounted is not gone)
           (restated_carries (seen_of d) lines below at end (freed_state end.state) d.ids h.carrying is)
           (freed_caused (seen_of d) below at end is h.caused);
-    }
-
-pub withdraws_waiting : (d : Dif) (i at : ℕ) (end : End) (flows : Flows) (rest : IdRest) (held : List CepIds) → slice_get d.flows.journal.ends at ≡ Some end → end.state ≡ Pending → home end.port.node (config_of d.settings).members ≡ Some i → flows.conns ≡ d.flows.conns → flows.journal.ends ≡ slice_set d.flows.journal.ends at (freed end) → RestsAt d at rest → GaveThere {T = Unit {0}} {E = NoMemory} d i rest (Ok tt) held → (lines : List Direction) (below : Seen) → Holds d lines below → FreesHere d lines below at (Ok tt) (record d { flows = flows; ids = held })
-withdraws_waiting d i at end flows rest held is waits here conns ends rests gave lines below h =
-    let not : end.state ≢ Allocated = λ e. (let clash : Pending ≡ Allocated = sym waits ∙ e in cc) in
-    let gone = freed_not end.state in
-    let seen = seen_of d in
-    let gives = gives_back d lines below h i at end rest held is here rests gave in
-    let withdrawn : IsWithdrawn seen at end (seen_of (record d { flows = flows; ids = held })) = record { held = held; gives_back = gives; new_is = freed_seen d at end flows held is not conns ends lines below h } in
-    let ends' : List End = slice_set d.flows.journal.ends at (freed end) in
-    let numbered = restated_numbered seen below at end h.numbered is in
-    record {
-      end = end;
-      is_end = is;
-      frees = subst (λ (z : PortState). FreesEnd z seen lines at end (seen_of (record d { flows = flows; ids = held }))) (sym waits) withdrawn;
-      holds = freed_holds d at end flows held is not conns ends lines below h
-          (withdrawn_stands seen lines below at end (freed_state end.state) held h.standing h.numbered is not (subst IsUp (sym waits) tt) (freed_down end.state) gone gives)
-          (record {
-            members = numbered.members;
-            addressed = numbered.addressed;
-            counted = numbered.counted;
-            drawn = subst (AreDrawn seen.config ends') (sym gives.held_is) (rest_drawn seen.config ends' seen.ids gives.place gives.old gives.ids.scep (seen.clock + 3 * delta_of gives.cube) gives.is_old numbered.drawn);
-            named = numbered.named;
-          })
-          (reheld_accounted (record seen { ends = ends' }) lines below held (restated_accounted seen lines below at end (freed_state end.state) h.accounted is not gone))
-          (restated_carries seen lines below at end (freed_state end.state) held h.carrying is)
-          (freed_caused seen below at end is h.caused);
     }
 
 -- The call

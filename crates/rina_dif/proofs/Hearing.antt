@@ -7,24 +7,28 @@ use Rattle.rina_agent.specs.declared.agent.Agent.{Agent}
 use Rattle.rina_agent.specs.declared.message.ManagementMessage.{ManagementMessage}
 use Rattle.rina_agent.specs.declared.message.ManagementMessage.TheVariants.{ToMember, ToNeighbour}
 use Rattle.rina_agent.specs.Rows.{handled}
+use Rattle.rina_alloc.specs.declared.message.FlowMessage.{FlowMessage}
+use Rattle.rina_alloc.specs.Messages.{IsSpelled as IsFlowText}
 use Rattle.rina_data.specs.Configs.{config_of}
 use Rattle.rina_enrol.specs.declared.message.LinkMessage.{LinkMessage}
 use Rattle.rina_enrol.specs.declared.message.LinkMessage.TheVariants as messages
 use Rattle.rina_enrol.specs.Messages.{IsInRange, IsSpelled}
 use Rattle.rina_enrol.proofs.Guesses.{one_message}
 use Rattle.rina_flood.specs.Journals.{passed_by, offered_by}
-use Rattle.rina_flood.specs.Members.{Adds, AreSame, AreTexts, HandlesMessage, IsAgentAt, IsRunOf, MembersSeen}
+use Rattle.rina_flood.specs.Members.{Adds, AreSame, AreTexts, HandlesMessage, IsAgentAt, IsRunOf, MembersSeen, PassesOver}
 use Rattle.rina_flood.specs.Network.{Far, Near, Side, There, after_rows, other}
 use Rattle.rina_flood.specs.Static.{LinkEnd, end_place}
 use Rattle.rina_flood.proofs.Journals.{passes_add}
-use Rattle.rina_flood.proofs.Members.{handles_run}
+use Rattle.rina_flood.proofs.Handled.{handles_run, passes_run}
+use Rattle.rina_flood.proofs.Members.{texts_first}
 use Rattle.rina_flood.proofs.Places.{drop_at}
 use Rattle.rina_iface.specs.declared.ends.End.{End}
 use Rattle.rina_iface.specs.Seen.{Seen}
 use Rattle.rina_iface.proofs.Changed.{slice_get-set_other, slice_get-set_same}
 use Rattle.rina_law.specs.declared.entry.Entry.{Entry}
 use Rattle.rina_member.specs.declared.management.Management.{Management}
-use Rattle.rina_member.specs.Managements.{HandlesSdu, is_news}
+use Rattle.rina_member.specs.Managements.{HandlesSdu, IsSdu, IsSduOf, is_news}
+use Rattle.rina_member.proofs.TextsApart.{texts_apart}
 use Rattle.rina_dif.specs.declared.dif.Dif.{Dif}
 use Rattle.rina_dif.specs.Connected.{channels_seen}
 use Rattle.rina_dif.specs.Flooding.{handled_at, link_end, offered_at, texts_of}
@@ -63,11 +67,13 @@ by_news now number sdu message m None range spelled none = elim (cases_Bool (is_
 pub one_handled : (now number : ℕ) (sdu : List ℕ) (message : LinkMessage) (m m' : Management) → IsInRange message → IsSpelled message sdu → HandlesOne now number sdu m m' → handled m.agent now number message ≡ Ok m'.agent
 one_handled now number sdu message m m' range spelled h = by_news now number sdu message m h.after range spelled h.handles ∙ ap (λ (g : Management). Ok g.agent) (sym h.is)
 
--- the text that comes first is of a message to a neighbour
-first_text : (ms : List ManagementMessage) (text : List ℕ) (texts : List (List ℕ)) → AreTexts ms (text ∷ texts) → (message : LinkMessage) × IsInRange message × IsSpelled message text
-first_text [] text texts are = absurd are
-first_text (ToNeighbour m ∷ ms) text texts are = (m, are.0.0, are.0.1)
-first_text (ToMember f ∷ ms) text texts are = absurd are.0
+-- an SDU about a flow leaves a member as it is
+passed_over : (now number : ℕ) (sdu : List ℕ) (flow : FlowMessage) (m : Management) (after : Option Management) → IsFlowText flow sdu → HandlesSdu now number sdu m (Ok after) → or_same m after ≡ m
+passed_over now number sdu flow m None text h = refl
+passed_over now number sdu flow m (Some m') text h = absurd (texts_apart sdu h.0 flow h.1.is_sdu text)
+
+pub one_passed : (now number : ℕ) (sdu : List ℕ) (flow : FlowMessage) (m m' : Management) → IsFlowText flow sdu → HandlesOne now number sdu m m' → m' ≡ m
+one_passed now number sdu flow m m' text h = h.is ∙ passed_over now number sdu flow m h.after text h.handles
 
 -- Places
 
@@ -178,11 +184,13 @@ module _ (d : Dif) (i place number : ℕ) (here : IsLinkEnd d i place number) (g
     next =
         ap (slice_get ((turn n m).sent from_place)) count ∙ ap (λ (ts : List (List ℕ)). slice_get ts n) partner_sent ∙ slice_get-map (λ (x : Entry). x.bytes) from.partner.sent n ∙ ap (option_map (λ (x : Entry). x.bytes)) from.is_source ∙ ap (λ (t : List ℕ). Some t) (sym from.same)
 
-    pub message : (message : LinkMessage) × IsInRange message × IsSpelled message entry.bytes
-    message =
+    -- it is the bytes of a message
+    pub heard : (message : ManagementMessage) × IsSduOf message entry.bytes
+    heard =
         let rest : List (List ℕ) = drop (suc (length ((turn n m).got (end_place l (other side))))) ((turn n m).sent from_place) in
         let texts = r.is.sent l side in
-        first_text ((after_rows r.start r.rows).sent l side) entry.bytes rest (subst (λ (ts : List (List ℕ)). AreTexts ((after_rows r.start r.rows).sent l side) ts) (drop_at ((turn n m).sent from_place) (length ((turn n m).got (end_place l (other side)))) entry.bytes next) texts)
+        let first = texts_first ((after_rows r.start r.rows).sent l side) entry.bytes rest (subst (λ (ts : List (List ℕ)). AreTexts ((after_rows r.start r.rows).sent l side) ts) (drop_at ((turn n m).sent from_place) (length ((turn n m).got (end_place l (other side)))) entry.bytes next) texts) in
+        (first.0, first.3)
 
     -- the journal after it
     abbrev twice : List End
@@ -210,8 +218,8 @@ module _ (d : Dif) (i place number : ℕ) (here : IsLinkEnd d i place number) (g
     pub turn_at : IsAgentAt (turn n m) l (other side) its_end m.agent
     turn_at = record { is_end = there; is_agent = slice_get-set_same (agents_of d.managements) i g.agent m.agent agent_at }
 
-    pub turn_event : HandlesMessage (turn n m) (turn (n + 1) m')
-    turn_event = record {
+    handled_event : (word : LinkMessage) → IsSdu word entry.bytes → HandlesMessage (turn n m) (turn (n + 1) m')
+    handled_event word is_sdu = record {
       link = l;
       side = side;
       end = its_end;
@@ -221,10 +229,10 @@ module _ (d : Dif) (i place number : ℕ) (here : IsLinkEnd d i place number) (g
       there = refl;
       text = entry.bytes;
       next = next;
-      message = message.0;
-      read = λ k range spelled. one_message k message.0 entry.bytes range message.1 spelled message.2;
+      message = word;
+      written = is_sdu;
       after = m'.agent;
-      handles = one_handled d.clock number entry.bytes message.0 m m' message.1 message.2 one;
+      handles = one_handled d.clock number entry.bytes word m m' is_sdu.in_range is_sdu.spelled one;
       stays = record { members = refl; ends = refl };
       now = refl;
       agents = sym (set-set (agents_of d.managements) i m.agent m'.agent);
@@ -232,8 +240,32 @@ module _ (d : Dif) (i place number : ℕ) (here : IsLinkEnd d i place number) (g
       got = got_more;
     }
 
+    passed_event : (flow : FlowMessage) → IsFlowText flow entry.bytes → PassesOver (turn n m) (turn (n + 1) m')
+    passed_event flow text = record {
+      link = l;
+      side = side;
+      end = its_end;
+      agent = m.agent;
+      at = turn_at;
+      number = number;
+      there = refl;
+      text = entry.bytes;
+      next = next;
+      none = λ word is_sdu. texts_apart entry.bytes word flow is_sdu text;
+      stays = record { members = refl; ends = refl };
+      now = refl;
+      agents = ap (λ (z : Management). slice_set (agents_of d.managements) i z.agent) (one_passed d.clock number entry.bytes flow m m' text one);
+      sent = sent_same;
+      got = got_more;
+    }
+
+    -- either way
+    heard_run : (message : ManagementMessage) → IsSduOf message entry.bytes → IsRunOf d.laid.is_static d.laid.links (turn (n + 1) m')
+    heard_run (ToNeighbour word) is_sdu = handles_run d.laid.is_static d.laid.links (turn n m) (turn (n + 1) m') r (handled_event word is_sdu)
+    heard_run (ToMember flow) text = passes_run d.laid.is_static d.laid.links (turn n m) (turn (n + 1) m') r (passed_event flow text)
+
     pub turn_run : IsRunOf d.laid.is_static d.laid.links (turn (n + 1) m')
-    turn_run = handles_run d.laid.is_static d.laid.links (turn n m) (turn (n + 1) m') r turn_event
+    turn_run = heard_run heard.0 heard.1
 
   -- what holds of the member goes on to hold, where it does at each turn
   module _ (Holds' : Management → Type 0) (keeps : (n : ℕ) (m m' : Management) (entry : Entry) → slice_get end.got n ≡ Some entry → HandlesOne d.clock number entry.bytes m m' → IsRunOf d.laid.is_static d.laid.links (turn n m) → Holds' m → Holds' m') where

@@ -1,5 +1,5 @@
 -- What comes with time to a DIF.
-use Rattle.std.proofs.Common.{◌≡◌, ◌∙◌, ℕ, ◌+◌, ◌<◌, Bool, true, false, List, length, get_or, slice_get, slice_set, Option, Some, None, Result, Ok, Err, refl, ap, subst, arith}
+use Rattle.std.proofs.Common.{◌≡◌, ◌∙◌, ℕ, ◌+◌, ◌<◌, Bool, true, false, List, length, get_or, slice_get, slice_set, Option, Some, None, Result, Ok, Err, refl, sym, ap, subst, arith}
 use Rattle.std.proofs.lemmas.Option.{slice_get_read, slice_get_within}
 use Rattle.rina_account.specs.declared.ledger.Off.{Off}
 use Rattle.rina_base.specs.declared.memory.Memory.{Memory}
@@ -155,4 +155,12 @@ gives_up d i at (Ok None) flows ps lt here does rest held rests gave lines below
 gives_up d i at (Err e) flows ps lt here does rest held rests gave lines below h =
     let p = has_process d below i (lines, h) lt in
     let x = does p.0 p.1 in
-    ap (λ (hs : List CepIds). record d { flows = flows; processes = ps; ids = hs }) gave ∙ unchanged d i p.0 flows ps x.0 p.1 x.1.0 x.1.1 x.2
+    let same : record d { flows = flows; processes = ps; ids = held } ≡ d = ap (λ (hs : List CepIds). record d { flows = flows; processes = ps; ids = hs }) gave ∙ unchanged d i p.0 flows ps x.0 p.1 x.1.0 x.1.1 x.2 in
+    (ap seen_of same, subst (λ (z : Dif). Holds z lines below) (sym same) h)
+
+-- without memory none is, and nothing changes
+pub gives_up_not : (d : Dif) (below : Seen) (i at : ℕ) (e : Memory) (flows : Flows) (ps : List IpcProcess) → Stands d below → i < length d.settings.members → WithLedger (λ f l f' l'. GivesUpIn d.clock at f l (Err e) f' l') i d.flows d.processes flows ps → record d { flows = flows; processes = ps } ≡ d
+gives_up_not d below i at e flows ps st lt does =
+    let p = has_process d below i st lt in
+    let x = does p.0 p.1 in
+    unchanged d i p.0 flows ps x.0 p.1 x.1.0 x.1.1 x.2

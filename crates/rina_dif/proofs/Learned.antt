@@ -5,10 +5,12 @@ use Rattle.std.proofs.lemmas.Option.{same_Some, slice_get_within}
 use Rattle.rina_iface.specs.declared.ends.End.{End}
 use Rattle.rina_iface.specs.Journal.{At}
 use Rattle.rina_iface.specs.Seen.{Seen}
+use Rattle.rina_iface.proofs.Changed.{slice_set-same}
 use Rattle.rina_law.specs.declared.entry.Entry.{Entry}
 use Rattle.rina_law.specs.Direction.{Direction}
 use Rattle.rina_agent.specs.declared.agent.Agent.{Agent}
-use Rattle.rina_agent.specs.declared.message.ManagementMessage.TheVariants.{ToNeighbour}
+use Rattle.rina_agent.specs.declared.message.ManagementMessage.{ManagementMessage}
+use Rattle.rina_agent.specs.declared.message.ManagementMessage.TheVariants.{ToMember, ToNeighbour}
 use Rattle.rina_agent.specs.declared.state.MemberState.TheVariants.{Enrolled}
 use Rattle.rina_enrol.specs.declared.message.LinkMessage.{LinkMessage}
 use Rattle.rina_enrol.specs.Messages.{IsInRange, IsSpelled}
@@ -27,8 +29,8 @@ use Rattle.rina_flows.specs.declared.flows.Flows.{Flows}
 use Rattle.rina_member.specs.declared.management.Management.{Management}
 use Rattle.rina_member.specs.Handling.{OwnIsNewest}
 use Rattle.rina_member.specs.Knowing.{AreRoutesOf, IsPlanned, Knows}
-use Rattle.rina_member.specs.Managements.{Handles, HandlesSdu}
-use Rattle.rina_member.specs.Short.{IsShort, TellsNeighbours}
+use Rattle.rina_member.specs.Managements.{Handles, HandlesSdu, IsSduOf}
+use Rattle.rina_member.specs.Short.{IsShort, TellsShort}
 use Rattle.rina_member.proofs.Enrolled.{handles_enrolled}
 use Rattle.rina_member.proofs.Knowing.{knows_live}
 use Rattle.rina_member.proofs.Learning.{handles_knowing}
@@ -44,11 +46,11 @@ use Rattle.rina_dif.specs.Routing.{SetsRoutes, with_routes}
 use Rattle.rina_dif.proofs.WaitsOnLive.{same_on_live}
 use Rattle.rina_dif.proofs.Handling.{first_turn, handled_caused, handled_connected, handled_flows, handled_written, last_turn, managed_both, with_handled}
 use Rattle.rina_dif.proofs.Elsewhere.{by_process}
-use Rattle.rina_dif.proofs.Enrolled.{enrolled_after, nodes_more}
-use Rattle.rina_dif.proofs.Hearing.{all_turns, its_end, l, message, next, side, turn, turn_at}
+use Rattle.rina_dif.proofs.Enrolled.{enrolled_after, nodes_more, nodes_stay}
+use Rattle.rina_dif.proofs.Hearing.{all_turns, heard, its_end, l, next, one_passed, side, turn, turn_at}
 use Rattle.rina_dif.proofs.Keeping.{set_cases}
 use Rattle.rina_dif.proofs.Leaves.{has_process}
-use Rattle.rina_member.proofs.TellsNear.{handles_near}
+use Rattle.rina_member.proofs.TellsEnrolled.{handles_short}
 use Rattle.rina_dif.proofs.Passing.{with_links}
 use Rattle.rina_dif.proofs.Turns.{turns_enrolled}
 use Rattle.rina_dif.proofs.Unlinked.{has_agent, has_member}
@@ -56,12 +58,12 @@ use Rattle.rina_dif.proofs.Unlinked.{has_agent, has_member}
 -- One message
 
 module _ (is_static : Bool) (members : List Member) (plans : List LinkPlan) (now : ℕ) (member : Member) (links : List Link) (first : Agent) where
-  -- a member knows its links, those of the plan in a static DIF, is enrolled if it was at first, and tells short messages to its neighbours alone
+  -- a member knows its links, those of the plan in a static DIF, is enrolled if it was at first, and tells short messages alone
   pub record IsSound (m : Management) : Type 0 where
     pub knows : Knows now member links m.agent
     pub planned : is_static ≡ true → IsPlanned members plans member links m.agent
     pub stays : first.state ≡ Enrolled → m.agent.state ≡ Enrolled
-    pub tells : TellsNeighbours m.agent
+    pub tells : TellsShort m.agent
 
   by_news : (number : ℕ) (sdu : List ℕ) (word : LinkMessage) (m : Management) (after : Option Management) → IsInRange word → IsSpelled word sdu → IsShort (ToNeighbour word) → OwnIsNewest m.agent word → HandlesSdu now number sdu m (Ok after) → IsSound m → IsSound (or_same m after)
   by_news number sdu word m None range spelled short own h sound = sound
@@ -72,7 +74,7 @@ module _ (is_static : Bool) (members : List Member) (plans : List LinkPlan) (now
         knows = handles_knowing now number member links word m m' sound.knows range short.1 own handles;
         planned = λ still. handles_planned members plans member links now number word m m' handles (sound.planned still);
         stays = λ was. handles_enrolled now number word m m' handles (sound.stays was);
-        tells = handles_near now number word m m' range short handles sound.tells;
+        tells = handles_short now number word m m' sound.tells range short handles;
       }
 
   one_sound : (number : ℕ) (sdu : List ℕ) (word : LinkMessage) (m m' : Management) → IsInRange word → IsSpelled word sdu → IsShort (ToNeighbour word) → OwnIsNewest m.agent word → HandlesOne now number sdu m m' → IsSound m → IsSound m'
@@ -92,18 +94,24 @@ module _ (what : WhatComes) (d : Dif) (i place number : ℕ) (here : IsLinkEnd d
   abbrev K : Management → Type 0
   K m = IsSound d.laid.is_static d.settings.members d.laid.links d.clock member p.links g.agent m
 
-  turn_knows : (n : ℕ) (m m' : Management) (entry : Entry) → slice_get here.end.got n ≡ Some entry → HandlesOne d.clock number entry.bytes m m' → IsRunOf d.laid.is_static d.laid.links (turn d i place number here g is_g below h.connected n m) → K m → K m'
-  turn_knows n m m' entry is one r sound =
-      let word = message d i place number here g is_g below h.connected n m m' entry is one r in
-      let comes : ComesNext (turn d i place number here g is_g below h.connected n m) (l d i place number here g is_g below h.connected) (side d i place number here g is_g below h.connected) (its_end d i place number here g is_g below h.connected) m.agent word.0 = record {
+  -- what came is a message of a neighbour, or about a flow
+  heard_knows : (n : ℕ) (m m' : Management) (entry : Entry) → slice_get here.end.got n ≡ Some entry → HandlesOne d.clock number entry.bytes m m' → IsRunOf d.laid.is_static d.laid.links (turn d i place number here g is_g below h.connected n m) → K m → (message : ManagementMessage) → IsSduOf message entry.bytes → K m'
+  heard_knows n m m' entry is one r sound (ToNeighbour word) sdu =
+      let comes : ComesNext (turn d i place number here g is_g below h.connected n m) (l d i place number here g is_g below h.connected) (side d i place number here g is_g below h.connected) (its_end d i place number here g is_g below h.connected) m.agent word = record {
         at = turn_at d i place number here g is_g below h.connected n m m' entry is one r;
         text = entry.bytes;
         next = next d i place number here g is_g below h.connected n m m' entry is one r;
-        in_range = word.1;
-        spelled = word.2;
+        in_range = sdu.in_range;
+        spelled = sdu.spelled;
       } in
-      let of = what d.laid.is_static d.laid.links (turn d i place number here g is_g below h.connected n m) (l d i place number here g is_g below h.connected) (side d i place number here g is_g below h.connected) (its_end d i place number here g is_g below h.connected) m.agent word.0 r comes in
-      one_sound d.laid.is_static d.settings.members d.laid.links d.clock member p.links g.agent number entry.bytes word.0 m m' word.1 word.2 of.short of.own one sound
+      let of = what d.laid.is_static d.laid.links (turn d i place number here g is_g below h.connected n m) (l d i place number here g is_g below h.connected) (side d i place number here g is_g below h.connected) (its_end d i place number here g is_g below h.connected) m.agent word r comes in
+      one_sound d.laid.is_static d.settings.members d.laid.links d.clock member p.links g.agent number entry.bytes word m m' sdu.in_range sdu.spelled of.short of.own one sound
+  heard_knows n m m' entry is one r sound (ToMember flow) text = subst K (sym (one_passed d.clock number entry.bytes flow m m' text one)) sound
+
+  turn_knows : (n : ℕ) (m m' : Management) (entry : Entry) → slice_get here.end.got n ≡ Some entry → HandlesOne d.clock number entry.bytes m m' → IsRunOf d.laid.is_static d.laid.links (turn d i place number here g is_g below h.connected n m) → K m → K m'
+  turn_knows n m m' entry is one r sound =
+      let what_came = heard d i place number here g is_g below h.connected n m m' entry is one r in
+      heard_knows n m m' entry is one r sound what_came.0 what_came.1
 
   module _ (after : Management) (routes : List Route) (flows : Flows) (handles : HandlesInTurn d.clock number (unpassed_sdus here.end) g after) (are : AreRoutesOf after.agent d.settings.members routes) (passes : PassAll d place flows) (stand : (b : Seen) → LinksStand d b → LinksStand (with_links d flows) b) where
     abbrev d' : Dif
@@ -221,6 +229,23 @@ module _ (d : Dif) (i place number : ℕ) (here : IsLinkEnd d i place number) (l
       subst (λ (z : Dif). HandlesHere d lines below i place number (record z { processes = ps; managements = ms; enrolled = nodes })) (sym whole)
       (handles_done what alive after routes mid.connections.flows ms ps nodes handles are passes (λ b links. subst (λ (z : Dif). LinksStand z b) whole (stand b links))
       (subst (λ (qs : List IpcProcess). SetsRoutes i routes qs ps) (ap (λ (z : Dif). z.processes) whole) sets) (are_managed ∙ ap (λ (z : Dif). slice_set z.managements i after) whole) are_nodes lines below h)
+
+  -- where it is as it was
+  pub handles_nothing : WhatComes → d.failed ≡ false → (mid : Dif) → ((m : Management) (end : End) → slice_get d.managements i ≡ Some m → At d.connections.flows.journal.ends place end → HandlesInTurn d.clock number (unpassed_sdus end) m m)
+      → PassAll d place mid.connections.flows → ((b : Seen) → LinksStand d b → LinksStand mid b) → mid ≡ with_links d mid.connections.flows → (lines : List Direction) (below : Seen) → Holds d lines below → HandlesHere d lines below i place number mid
+  handles_nothing what alive mid handles passes stand whole lines below h =
+      let member = has_member d i lt in
+      let p = has_process d below i (lines, h) lt in
+      let g = has_agent d lines below i lt h in
+      let own = h.managed.each i member.0 p.0 g.0 member.1 p.1 g.1 in
+      handles_after what alive g.0 p.0.routes mid mid.managements mid.processes mid.enrolled
+      (λ m end is_m is_end. subst (λ (x : Management). HandlesInTurn d.clock number (unpassed_sdus end) m x) (same_Some m g.0 (sym is_m ∙ g.1)) (handles m end is_m is_end)) own.routes passes stand whole
+      (λ q is_q.
+      let is_q' : slice_get d.processes i ≡ Some q = ap (λ (z : Dif). slice_get z.processes i) (sym whole) ∙ is_q in
+      let same : q ≡ p.0 = same_Some q p.0 (sym is_q' ∙ p.1) in
+      subst (λ (x : IpcProcess). mid.processes ≡ slice_set mid.processes i (with_routes q x.routes)) same (sym (slice_set-same mid.processes i q is_q)))
+      (sym (slice_set-same mid.managements i g.0 (ap (λ (z : Dif). slice_get z.managements i) whole ∙ g.1)))
+      (ap (λ (z : Dif). z.enrolled) whole ∙ nodes_stay d i g.0 g.0 h.enrolled g.1 refl) lines below h
 
   -- who was enrolled is so still
   pub stays_enrolled : WhatComes → d.failed ≡ false → Stands' d → (after : Management) → ((m : Management) (end : End) → slice_get d.managements i ≡ Some m → At d.connections.flows.journal.ends place end → HandlesInTurn d.clock number (unpassed_sdus end) m after) → StayEnrolled d.enrolled (nodes_with d i after)

@@ -1,6 +1,11 @@
 mod Absent
+pub mod Accepting
 pub mod Among
+pub mod AnswerLooks
+pub mod Answering
+pub mod AnswersIn
 pub mod Asked
+pub mod AskCalls
 pub mod AskedBelow
 pub mod AskedInTurn
 pub mod Bare
@@ -20,6 +25,7 @@ pub mod Connected
 pub mod Connecting
 mod Drawing
 pub mod Cutting
+pub mod DeletesIn
 pub mod Elsewhere
 pub mod Enrolled
 pub mod EnrolBeside
@@ -27,7 +33,17 @@ pub mod Enrols
 pub mod Entered
 pub mod Facing
 pub mod Failing
+pub mod FlowEnds
 pub mod FlowIds
+pub mod FlowMessages
+pub mod FarAdded
+pub mod FarEnds
+pub mod FarLooks
+pub mod FarMakes
+pub mod FlowPosts
+pub mod FlowRows
+pub mod FlowWalk
+pub mod FlowWords
 pub mod Flooding
 pub mod FloodingStart
 pub mod Forgotten
@@ -39,8 +55,10 @@ pub mod GivenUp
 pub mod Joining
 pub mod Keeping
 pub mod Kept
+pub mod KeptRoutes
 pub mod Laid
 pub mod Lapsed
+pub mod LateAsks
 pub mod Lastly
 pub mod Leaves
 pub mod LinkEnds
@@ -73,9 +91,11 @@ pub mod Owning
 pub mod Passed
 pub mod Pieced
 pub mod Posted
+pub mod Posts
 pub mod Posting
 pub mod Putting
 pub mod Refused
+pub mod Refusing
 pub mod Registered
 pub mod Resent
 pub mod Rested
@@ -93,6 +113,7 @@ pub mod Taken
 pub mod TakenLinks
 pub mod Told
 pub mod Undue
+pub mod Untaken
 pub mod Unlinked
 pub mod WaitsOnLive
 pub mod Ways
@@ -104,7 +125,10 @@ pub mod Handling
 pub mod Hearing
 pub mod Partners
 pub mod Passing
+pub mod Requested
 pub mod Rerouted
+pub mod TurnedDown
 pub mod Turns
 pub mod Learned
 pub mod Ahead
+pub mod Waiting

@@ -128,7 +128,7 @@ made_enrolled plan i dif d bare are members aligned started nodes =
     starts_known dif.is_static d.settings.cubes d.settings dif.links dif.rules dif.allow bare d.managements d.enrolled members aligned started nodes
     (λ dynamic. ap (λ (s : Settings). s.admits) are ∙ ap (λ (b : Bool). cond b (2 ^ (8 * dif.widths.cep) - 1) 0) dynamic)
 
-pub made_stands : (plan : Plan) (i : ℕ) (dif : DifPlan) (d : Dif) (old new : Seen) → AreKept new → IsPlan plan → slice_get plan.difs i ≡ Some dif → d.settings ≡ settings_by plan i dif → d.clock ≡ old.now → d.flows.journal.ends ≡ [] → d.flows.conns ≡ [] → (AreWidths d.settings.widths → AreUndrawn d.settings.widths.cep (length d.settings.members) d.ids) → IsFree (config_of d.settings) old → IsLaidIn (config_of d.settings) old new → (ports : List (Port × Port)) (bare : List IpcProcess) → AreNamed d.settings.members → AreLaid plan dif d.settings dif.links old new ports bare → AreStarted dif.is_static d.settings.cubes d.settings.members dif.links dif.rules dif.allow (length d.settings.members) bare d.managements → AreRouted d.settings.members d.managements (length d.managements) bare d.processes → d.laid ≡ record { is_static = dif.is_static; links = dif.links } → d.enrolled ≡ map (λ (m : Kept). m.node) (first_enrolled dif.is_static d.settings.members) → AreConnected (config_of d.settings) d.clock d.connections (seen_of d).processes new → AreFlooding d → Stands d new
+pub made_stands : (plan : Plan) (i : ℕ) (dif : DifPlan) (d : Dif) (old new : Seen) → AreKept new → IsPlan plan → slice_get plan.difs i ≡ Some dif → d.settings ≡ settings_by plan i dif → d.clock ≡ old.now → d.flows.journal.ends ≡ [] → d.flows.conns ≡ [] → (AreWidths d.settings.widths → AreUndrawn d.settings.widths.cep (length d.settings.members) d.ids) → IsFree (config_of d.settings) old → IsLaidIn (config_of d.settings) old new → (ports : List (Port × Port)) (bare : List IpcProcess) → AreNamed d.settings.members → AreLaid plan dif d.settings dif.links old new ports bare → AreStarted dif.is_static d.settings.cubes d.settings.members dif.links dif.rules dif.allow (length d.settings.members) bare d.managements → AreRouted d.settings.members d.managements (length d.managements) bare d.processes → d.laid ≡ record { is_static = dif.is_static; links = dif.links; wait = dif.wait } → d.enrolled ≡ map (λ (m : Kept). m.node) (first_enrolled dif.is_static d.settings.members) → AreConnected (config_of d.settings) d.clock d.connections (seen_of d).processes new → AreFlooding d → Stands d new
 made_stands plan i dif d old new kept sound at are clock ends conns undrawn free inside ports bare named was started routed same nodes connected floods =
     let laid = laid_still plan dif d.settings dif.links old new ports d.managements (length d.managements) bare d.processes was routed in
     let g = config_of d.settings in

@@ -16,7 +16,7 @@ use Rattle.rina_graph.specs.declared.graph.Edge.{Edge}
 use Rattle.rina_route.specs.declared.link.Link.{Link as Hop}
 use Rattle.rina_member.specs.Knowing.{AreRoutesOf, IsPlanned, Knows, all_claims, hops_of}
 use Rattle.rina_member.specs.Routing.{AreRoutesOver}
-use Rattle.rina_member.specs.Short.{TellsNeighbours}
+use Rattle.rina_member.specs.Short.{TellsShort}
 use Rattle.rina_member.proofs.Knowing.{knows_later, knows_routes}
 use Rattle.rina_member.proofs.Losing.{loses}
 use Rattle.rina_member.proofs.Planned.{loses_planned, planned_hops}
@@ -26,7 +26,7 @@ use Rattle.rina_dif.specs.declared.dif.Dif.{Dif}
 use Rattle.rina_dif.specs.Changing.{changed_at, changed_if}
 use Rattle.rina_dif.specs.Managing.{AreBounded, AreManagedBy, IsManaged, agents_of}
 use Rattle.rina_dif.specs.Routing.{HaveRoutes}
-use Rattle.rina_member.proofs.TellsNear.{loses_near}
+use Rattle.rina_member.proofs.Tells.{lost_short}
 
 -- the management of a member
 pub its_agent : (members : List Member) (managements : List Management) (k : ℕ) (m : Member) → length managements ≡ length members → slice_get members k ≡ Some m → (g : Management) × (slice_get managements k ≡ Some g)
@@ -96,7 +96,7 @@ managed_shown is_static members plans now ps old new same h = record {
         planned = λ still. subst (λ (a : Agent). IsPlanned members plans m p.links a) agent (one.planned still);
         bounded = one.bounded;
         routes = subst (λ (a : Agent). AreRoutesOf a members p.routes) agent one.routes;
-        tells = subst (λ (a : Agent). TellsNeighbours a) agent one.tells;
+        tells = subst (λ (a : Agent). TellsShort a) agent one.tells;
       };
 }
 
@@ -154,7 +154,7 @@ managed_lost is_static members plans now ps managements at m p p' g g' place lin
       planned = λ still. subst (λ (ls : List Link). IsPlanned members plans m ls g'.agent) (sym links_are) (loses_planned members plans now m p.links g.agent g'.agent place link was.knows (was.planned still) stands live loss.loses);
       bounded = subst AreBounded (sym links_are) (lost_bounded p.links place link stands was.bounded);
       routes = subst (λ (rs : List Route). AreRoutesOf g'.agent members rs) (sym routes_are) loss.routes;
-      tells = loses_near now link.number g.agent g'.agent loss.loses was.tells;
+      tells = lost_short g.agent g'.agent now link.number was.tells loss.loses;
     } in
     record {
       laid_out = h.laid_out;

@@ -14,14 +14,14 @@ use Rattle.rina_data.proofs.Finding.{there}
 use Rattle.rina_dif_law.specs.Sending.{home}
 use Rattle.rina_flows.specs.declared.due.Item.{Item}
 use Rattle.rina_dif.specs.declared.dif.Dif.{Dif}
-use Rattle.rina_dif.specs.Changing.{ManagesStep}
+use Rattle.rina_dif.specs.FlowEnds.{ManagesStep}
 use Rattle.rina_dif.specs.Clocking.{IsStill, Serves, ServesAnyHere, ServesHere, item_of}
 use Rattle.rina_dif.specs.Holding.{Holds, LinksStand, Stands}
 use Rattle.rina_dif.specs.Lower.{FreesBelow}
 use Rattle.rina_dif.specs.MessageSteps.{IfIdle, NoMessageAt}
 use Rattle.rina_dif.specs.Messaging.{IsMessageDue, OffersAmong}
 use Rattle.rina_dif.specs.Shown.{seen_of}
-use Rattle.rina_dif.specs.Telling.{TellNeighbours}
+use Rattle.rina_dif.specs.Telling.{TellShort}
 use Rattle.rina_dif.proofs.Leaves.{has_process}
 
 same_some : {X : Type 0} (o : Option X) (a b : X) → o ≡ Some a → o ≡ Some b → a ≡ b
@@ -29,9 +29,9 @@ same_some o a b h g = cc
 
 -- What the members tell
 
--- the members of a DIF that stands tell short messages to their neighbours
-pub tell_neighbours : (d : Dif) (below : Seen) → Stands d below → TellNeighbours d.managements
-tell_neighbours d below st k g is =
+-- the members of a DIF that stands tell short messages
+pub tell_short : (d : Dif) (below : Seen) → Stands d below → TellShort d.managements
+tell_short d below st k g is =
     let within = slice_get_within d.managements k g is in
     let aligned = st.1.managed.aligned in
     let lt : k < length d.settings.members = omega (arith, within, aligned) in
@@ -76,8 +76,9 @@ pub idle_below : (same : Type 0) (frees : Port → Result (Unit {0}) FreeError �
 idle_below same frees done is h = subst (λ (z : ClockStep). FreesBelow same frees (Ok z)) is h
 
 still_so : (d : Dif) (lines : List Direction) (below : Seen) (node : ℕ) (d1 : Dif) (lines' : List Direction) (below' : Seen) → LinksStand d below → Serves d lines below node step.Idle d1 lines' below' → IsStill d lines below node
-still_so d lines below node d1 lines' below' links (inl flow) = record { flows = flow.does.0; links = flow.first }
-still_so d lines below node d1 lines' below' links (inr link) = (let x = link.0.does links in absurd (never_told x.item x.told))
+still_so d lines below node d1 lines' below' links (inl flow) = record { flows = flow.does.0; links = flow.first; asks = flow.no_ask }
+still_so d lines below node d1 lines' below' links (inr (inl link)) = (let x = link.0.does links in absurd (never_told x.item x.told))
+still_so d lines below node d1 lines' below' links (inr (inr ask)) = (let told = ask.0.told in absurd cc)
 
 -- Something else is done
 
@@ -133,8 +134,15 @@ serves_none d lines below below' node r e d' is err same low h =
 pub stays_none : (d d' : Dif) (r : Result ClockStep StepError) (e : StepError) → r ≡ Err e → d' ≡ d → OnErr r (d'.connections ≡ d.connections)
 stays_none d d' r e err same = subst (λ (v : Result ClockStep StepError). OnErr v (d'.connections ≡ d.connections)) (sym err) (ap (λ (z : Dif). z.connections) same)
 
+no_change : (d d' : Dif) (below : Seen) (at : Option ℕ) (node : ℕ) (e : StepError) → d' ≡ d → ManagesStep (Err e) at d below node d'.managements
+no_change d d' below (Some at) node why.Memory same = inl (ap (λ (z : Dif). z.managements) same)
+no_change d d' below None node why.Memory same = ap (λ (z : Dif). z.managements) same
+no_change d d' below at node why.NoIpc same = ap (λ (z : Dif). z.managements) same
+no_change d d' below at node why.NoLink same = ap (λ (z : Dif). z.managements) same
+no_change d d' below at node (why.CountSpent need left) same = ap (λ (z : Dif). z.managements) same
+
 pub manages_none : (d d' : Dif) (below : Seen) (at : Option ℕ) (node : ℕ) (r : Result ClockStep StepError) (e : StepError) → r ≡ Err e → d' ≡ d → ManagesStep r at d below node d'.managements
-manages_none d d' below at node r e err same = subst (λ (v : Result ClockStep StepError). ManagesStep v at d below node d'.managements) (sym err) (ap (λ (z : Dif). z.managements) same)
+manages_none d d' below at node r e err same = subst (λ (v : Result ClockStep StepError). ManagesStep v at d below node d'.managements) (sym err) (no_change d d' below at node e same)
 
 -- and the management of the member that sent it has it no more
 pub message_manages : (d : Dif) (lines : List Direction) (below : Seen) (i node number : ℕ) (d1 d' : Dif) → d1 ≡ d → Holds d lines below → OffersAmong d1 lines below i (Ok (Some number)) d' → ManagesStep (Ok (step.Message number)) (Some i) d below node d'.managements

@@ -57,7 +57,7 @@ some_home : (b : Bool) (o : Option ℕ) → (b ≡ true → is_some o ≡ true) 
 some_home true o here = sym (here refl)
 some_home false o here = refl
 
-members_at : (d : Dif) (node : ℕ) → IsDif d → is_member d.enrolled node ≡ is_some (enrolled_home d node)
+pub members_at : (d : Dif) (node : ℕ) → IsDif d → is_member d.enrolled node ≡ is_some (enrolled_home d node)
 members_at d node is = some_home (is_member d.enrolled node) (home_of d node) (λ there. sym (any_placed (λ (m : Member). m.node == node) (config_of d.settings).members) ∙ sym (nodes_there node (config_of d.settings).members) ∙ sym (members_there node d.settings.members) ∙ member_there d is.stands.0 is.below is.stands.1 node there)
 
 -- A registration is refused

@@ -104,6 +104,8 @@ module _ (s : Settings) (clock i j : ℕ) (joiner member : Member) (link : Attac
     is_cube = manage_there g c.manage;
     fresh = fresh;
     same_flow = ap (λ (e : End). e.flow) x.end_is ∙ sym (ap (λ (e : End). e.flow) x.asker_is);
+    got = ap (λ (e : End). e.got) x.asker_is;
+    far_got = ap (λ (e : End). e.got) x.end_is;
   }
 
   -- the names of the next two places

@@ -24,7 +24,7 @@ use Rattle.rina_member.specs.Managements.{claimed}
 use Rattle.rina_member.specs.Routing.{AreRoutesOver}
 use Rattle.rina_member.specs.Start.{node_of}
 use Rattle.rina_member.proofs.Knowing.{claims_knowing, joins_knowing, knows_count}
-use Rattle.rina_member.proofs.TellsNear.{claims_near, joins_near}
+use Rattle.rina_member.proofs.TellsMore.{claims_short, joins_short}
 use Rattle.rina_newest.specs.declared.item.Item.{Item}
 use Rattle.rina_plan.specs.declared.dif.LinkPlan.{LinkPlan}
 use Rattle.rina_route.specs.declared.link.Link.{Link as Hop}
@@ -102,7 +102,7 @@ module _ (is_static : Bool) (members : List Member) (plans : List LinkPlan) (now
           planned = λ still. subst (λ (ls : List Link). IsPlanned members plans m ls b) (sym takes.links) (plan still);
           bounded = bounded;
           routes = subst (λ (rs : List Route). AreRoutesOf b members rs) (sym takes.routes) (same_routes g.agent b l members p.routes refl refl refl refl h.routes);
-          tells = joins_near link.number member.name (node_of member) g.agent named fewer h.tells;
+          tells = joins_short link.number member.name (node_of member) g.agent named fewer h.tells;
         }
 
     pub claims_managed : (is_static ≡ true → IsPlanned members plans m (p.links ++ link_of link ∷ []) (with_claimed g link.number).agent) → IsManaged is_static members plans now m p' (with_claimed g link.number)
@@ -114,7 +114,7 @@ module _ (is_static : Bool) (members : List Member) (plans : List LinkPlan) (now
           planned = λ still. subst (λ (ls : List Link). IsPlanned members plans m ls b) (sym takes.links) (plan still);
           bounded = bounded;
           routes = subst (λ (rs : List Route). AreRoutesOf b members rs) (sym takes.routes) (same_routes g.agent b l members p.routes refl refl refl refl h.routes);
-          tells = claims_near link.number g.agent fewer h.tells;
+          tells = claims_short link.number g.agent fewer h.tells;
         }
 
 -- The members of a DIF

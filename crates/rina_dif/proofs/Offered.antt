@@ -1,5 +1,5 @@
 -- A management message is offered at the connection of its link, and the DIF holds.
-use Rattle.std.proofs.Common.{◌≡◌, ◌∙◌, ℕ, ◌≤◌, Bool, true, List, [], ◌∷◌, ◌++◌, length, map, slice_get, slice_set, Option, Some, None, option_map, Ok, refl, sym, ap, subst, arith, inl, inr, length-set}
+use Rattle.std.proofs.Common.{◌≡◌, ◌∙◌, ℕ, Bool, true, List, [], ◌∷◌, ◌++◌, length, map, slice_get, slice_set, Option, Some, None, option_map, Ok, refl, sym, ap, subst, arith, inl, inr, length-set}
 use Rattle.std.proofs.lemmas.Bool.{true≢false}
 use Rattle.std.proofs.lemmas.List.{length-map, map-set}
 use Rattle.std.proofs.lemmas.Option.{slice_get-map}
@@ -7,8 +7,6 @@ use Rattle.rina_base.specs.declared.pdu.Pdu.{Pdu}
 use Rattle.rina_conn.specs.declared.conn.Conn.{Conn}
 use Rattle.rina_conn.specs.declared.made.Made.{Made}
 use Rattle.rina_cube.specs.declared.Cube.{Cube}
-use Rattle.rina_enrol.specs.declared.message.LinkMessage.{LinkMessage}
-use Rattle.rina_enrol.specs.Messages.{IsSpelled}
 use Rattle.rina_iface.specs.declared.ends.End.{End}
 use Rattle.rina_iface.specs.Ends.{with_sent as end_with_sent}
 use Rattle.rina_iface.specs.Seen.{Seen}
@@ -19,14 +17,12 @@ use Rattle.rina_law.specs.Pieces.{IsCut}
 use Rattle.rina_law.specs.Constants.{Constants}
 use Rattle.rina_law.specs.Receiver.{Piece}
 use Rattle.rina_queue.specs.declared.queue.Queued.{Queued}
-use Rattle.rina_agent.specs.declared.message.ManagementMessage.{ManagementMessage}
-use Rattle.rina_agent.specs.declared.message.ManagementMessage.TheVariants.{ToMember, ToNeighbour}
 use Rattle.rina_agent.specs.declared.message.Waiting.{Waiting}
 use Rattle.rina_agent.specs.Agenda.{waits_on}
 use Rattle.rina_member.specs.declared.management.Management.{Management}
 use Rattle.rina_member.proofs.Knowing.{sends_knowing}
 use Rattle.rina_member.proofs.Planned.{planned_links}
-use Rattle.rina_member.specs.Managements.{IsSduOf, with_sent}
+use Rattle.rina_member.specs.Managements.{with_sent}
 use Rattle.rina_member.proofs.Lists.{found}
 use Rattle.rina_plan.specs.declared.dif.LinkPlan.{LinkPlan}
 use Rattle.rina_data.specs.declared.process.IpcProcess.{IpcProcess}
@@ -38,7 +34,6 @@ use Rattle.rina_dif_law.specs.Dif.{constants}
 use Rattle.rina_dif_law.specs.Ids.{Ids, pdu_of_piece}
 use Rattle.rina_dif_law.specs.Sending.{offered_entry, offered_pieces}
 use Rattle.rina_flood.specs.Journals.{offered_by, passed_by}
-use Rattle.rina_member.specs.Short.{IsShort, IsToNeighbour}
 use Rattle.rina_flood.specs.Members.{Adds, AreSame, OffersMessage}
 use Rattle.rina_flood.specs.Network.{There}
 use Rattle.rina_flood.specs.Static.{LinkEnd, end_place}
@@ -58,6 +53,7 @@ use Rattle.rina_channel.proofs.Calls.{calls_that_offer_do}
 use Rattle.rina_channel.proofs.Fitting.{messages_serve_links}
 use Rattle.rina_channel.proofs.Putting.{offered_stands}
 use Rattle.rina_member.specs.Knowing.{HasLiveLink}
+use Rattle.rina_flows.proofs.Unused.{allocated_used}
 use Rattle.rina_dif.specs.declared.dif.Dif.{Dif}
 use Rattle.rina_dif.specs.declared.send.FirstHop.{FirstHop}
 use Rattle.rina_dif.specs.Changing.{changed_at, changed_if}
@@ -67,7 +63,7 @@ use Rattle.rina_dif.specs.Holding.{Holds, LinksStand}
 use Rattle.rina_dif.specs.LinkDue.{IsLinkEnd}
 use Rattle.rina_dif.specs.Managing.{AreManagedBy, IsManaged, agents_of}
 use Rattle.rina_dif.specs.Messaging.{IsFirstSdu, IsOpenEnd, IsReady, OffersAt, OffersDue, manage_config}
-use Rattle.rina_dif.specs.Telling.{TellNeighbours}
+use Rattle.rina_dif.specs.Telling.{TellShort}
 use Rattle.rina_dif.specs.Sending.{AreOf, HasRoomFor, Puts, queued}
 use Rattle.rina_dif.specs.Shown.{seen_of}
 use Rattle.rina_dif.proofs.Bare.{map_at}
@@ -77,7 +73,7 @@ use Rattle.rina_dif.proofs.Flooding.{side_at}
 use Rattle.rina_dif.proofs.Keeping.{IsSameHouse, house_is, put_house}
 use Rattle.rina_dif.proofs.Leaves.{shown_at}
 use Rattle.rina_dif.proofs.LinksLive.{serving_lives}
-use Rattle.rina_member.proofs.TellsNear.{sends_near}
+use Rattle.rina_member.proofs.Tells.{sent_short}
 use Rattle.rina_dif.proofs.Sent.{IsPut, is_put, pieces_count}
 use Rattle.rina_dif.proofs.Served.{live_there, put_lawful}
 use Rattle.rina_dif.proofs.LinkEnds.{StayLive, end_there, ends_stay, set_stays}
@@ -106,7 +102,7 @@ sent_managed is_static members plans now m p g number h = record {
   planned = λ still. planned_links members plans m p.links g.agent (with_sent g number).agent refl (h.planned still);
   bounded = h.bounded;
   routes = record { rows = h.routes.rows; hops = h.routes.hops; are = h.routes.are };
-  tells = sends_near number g h.tells;
+  tells = sent_short g.agent number h.tells;
 }
 
 all_managed : (is_static : Bool) (members : List Member) (plans : List LinkPlan) (now : ℕ) (ps : List IpcProcess) (ms : List Management) (i number : ℕ) (g : Management) → slice_get ms i ≡ Some g → AreManagedBy is_static members plans now ps ms → AreManagedBy is_static members plans now ps (slice_set ms i (with_sent g number))
@@ -132,15 +128,11 @@ told_handled : (o : Option End) → handled_at o ≡ passed_by o
 told_handled None = refl
 told_handled (Some end) = refl
 
--- the message that waits is to a neighbour
-to_neighbour : (m : ManagementMessage) (sdu : List ℕ) → IsToNeighbour m → IsSduOf m sdu → (message : LinkMessage) × (m ≡ ToNeighbour message) × IsSpelled message sdu
-to_neighbour (ToNeighbour m) sdu near is = (m, refl, is.spelled)
-to_neighbour (ToMember m) sdu near is = absurd near
+-- what waits for a link has its number
+waits_there : (number : ℕ) (w : Waiting) → waits_on number w ≡ true → w ≡ record { link = number; message = w.message }
+waits_there number w passes = (let link : w.link ≡ number = grind (arith, passes) in λ i. record { link = link i; message = w.message })
 
-waits_there : (number : ℕ) (w : Waiting) (m : LinkMessage) → waits_on number w ≡ true → w.message ≡ ToNeighbour m → w ≡ record { link = number; message = ToNeighbour m }
-waits_there number w m passes is = (let link : w.link ≡ number = grind (arith, passes) in λ i. record { link = link i; message = is i })
-
-module _ (d : Dif) (i place number : ℕ) (sdu : List ℕ) (entry : Entry) (end : End) (flows : Flows) (ps : List IpcProcess) (here : IsLinkEnd d i place number) (first : IsFirstSdu d i number sdu) (tell : TellNeighbours d.managements) (early : d.clock ≤ 10000000)
+module _ (d : Dif) (i place number : ℕ) (sdu : List ℕ) (entry : Entry) (end : End) (flows : Flows) (ps : List IpcProcess) (here : IsLinkEnd d i place number) (first : IsFirstSdu d i number sdu) (tell : TellShort d.managements)
     (is_end : slice_get d.connections.flows.journal.ends place ≡ Some end) (bytes : entry.bytes ≡ sdu) (stay : StayLive d.processes ps) (are : flows.journal.ends ≡ slice_set d.connections.flows.journal.ends place (end_with_sent end entry)) where
   abbrev g : Management
   g = first.management
@@ -172,8 +164,7 @@ module _ (d : Dif) (i place number : ℕ) (sdu : List ℕ) (entry : Entry) (end 
       let there : slice_get ends (end_place side.0 side.1) ≡ Some its_end = ap (slice_get ends) side.2 ∙ slice_get-map (link_end d.processes) d.connections.channels place ∙ ap (option_map (link_end d.processes)) here.stands ∙ ap (λ (e : LinkEnd). Some e) end_is in
       let agent : slice_get (agents_of d.managements) i ≡ Some g.agent = slice_get-map (λ (z : Management). z.agent) d.managements i ∙ ap (option_map (λ (z : Management). z.agent)) first.is_management in
       let f = found (waits_on number) g.agent.agenda first.waiting first.first in
-      let m = to_neighbour first.waiting.message sdu ((tell i g first.is_management).near first.waiting f.0) first.is_sdu in
-      let waiting_is = waits_there number first.waiting m.0 f.1 m.1 in
+      let waiting_is = waits_there number first.waiting f.1 in
       let texts : Adds (end_place side.0 side.1) sdu (members_seen d).sent (members_seen sent_d).sent = subst (λ (k : ℕ). Adds k sdu (members_seen d).sent (members_seen sent_d).sent) (sym side.2) offered_texts in
       let event : OffersMessage (members_seen d) (members_seen sent_d) = record {
         link = side.0;
@@ -183,12 +174,11 @@ module _ (d : Dif) (i place number : ℕ) (sdu : List ℕ) (entry : Entry) (end 
         at = record { is_end = there; is_agent = agent };
         number = number;
         there = refl;
-        early = omega (arith, early);
-        message = m.0;
-        short = subst (λ (z : ManagementMessage). IsShort z) m.1 ((tell i g first.is_management).short.waiting first.waiting f.0);
+        message = first.waiting.message;
+        short = (tell i g first.is_management).waiting first.waiting f.0;
         first = first.first ∙ ap (λ (w : Waiting). Some w) waiting_is;
         text = sdu;
-        written = m.2;
+        written = first.is_sdu;
         stays = record { members = refl; ends = ends_stay d.processes ps stay d.connections.channels };
         now = refl;
         agents = map-set (λ (z : Management). z.agent) d.managements i (with_sent g number);
@@ -203,7 +193,7 @@ module _ (d : Dif) (i place number : ℕ) (sdu : List ℕ) (entry : Entry) (end 
 unfloods : (d : Dif) (lines : List Direction) (below : Seen) → Holds d lines below → Holds (record d { failed = true }) lines below
 unfloods d lines below h = record { tied = h.tied; standing = h.standing; carrying = h.carrying; numbered = h.numbered; accounted = h.accounted; caused = h.caused; written_off = h.written_off; housed = h.housed; managed = h.managed; enrolled = h.enrolled; connected = h.connected; flooded = λ failed. absurd (true≢false failed) }
 
-module _ (d : Dif) (i place number : ℕ) (sdu : List ℕ) (conn : Conn) (made : Made) (flows : Flows) (ps : List IpcProcess) (tell : TellNeighbours d.managements) (early : d.clock ≤ 10000000) (r : IsReady d i place number sdu) (is_conn : slice_get d.connections.flows.conns place ≡ Some conn)
+module _ (d : Dif) (i place number : ℕ) (sdu : List ℕ) (conn : Conn) (made : Made) (flows : Flows) (ps : List IpcProcess) (tell : TellShort d.managements) (r : IsReady d i place number sdu) (is_conn : slice_get d.connections.flows.conns place ≡ Some conn)
     (offers : FlowsOffer d.clock place sdu d.connections.flows (Ok made) flows) (puts : Puts 0 number (queued conn.sending.form.cube.mpl d.clock (map unnamed made.pdus)) i d.processes ps) (lines : List Direction) (below : Seen) (h : Holds d lines below) where
   abbrev old : Flows
   old = d.connections.flows
@@ -225,7 +215,7 @@ module _ (d : Dif) (i place number : ℕ) (sdu : List ℕ) (conn : Conn) (made :
 
   module _ (links : LinksStand d below) where
     o : Accepts (manage_config d) d.clock place sdu old links.lines made flows
-    o = offers (manage_config d) links.lines links.tied
+    o = offers (manage_config d) links.lines links.tied (allocated_used d.clock d.connections.flows.journal.ends place r.here.end links.standing.journal r.here.is_end r.here.allocated)
 
     its_ids : ids_of conn ≡ o.offers.its_ids
     its_ids = same_some _ (ids_of conn) o.offers.its_ids (ids_at old.conns place conn is_conn) o.offers.place.is_conn.ids_are
@@ -313,7 +303,7 @@ module _ (d : Dif) (i place number : ℕ) (sdu : List ℕ) (conn : Conn) (made :
         managed = all_managed d.laid.is_static d.settings.members d.laid.links d.clock (slice_set d.processes i put_process) d.managements i number teller r.first.is_management s.managed;
         enrolled = enrolled_on d.laid.is_static d.settings.members d.settings.admits d.managements (slice_set d.managements i (with_sent teller number)) d.enrolled (states_set d.managements i teller (with_sent teller number) r.first.is_management refl) h.enrolled;
         connected = s.connected;
-        flooded = λ alive. offered_floods d i place number sdu (offered_entry (constants (manage_config d) o'.offers.cube o'.offers.its_ids) o'.parts o'.offers.line) o'.offers.end flows (slice_set d.processes i put_process) r.here r.first tell early o'.offers.place.is_conn.end o'.cut.1 (set_stays d.processes i r.process put_process r.is_process house.links) o'.offers.offered.3 (h.flooded alive);
+        flooded = λ alive. offered_floods d i place number sdu (offered_entry (constants (manage_config d) o'.offers.cube o'.offers.its_ids) o'.parts o'.offers.line) o'.offers.end flows (slice_set d.processes i put_process) r.here r.first tell o'.offers.place.is_conn.end o'.cut.1 (set_stays d.processes i r.process put_process r.is_process house.links) o'.offers.offered.3 (h.flooded alive);
       }
 
   -- what was done, where the flow below the link is allocated
@@ -354,7 +344,7 @@ module _ (d : Dif) (i place number : ℕ) (sdu : List ℕ) (conn : Conn) (made :
 pub can_put : (d : Dif) (i place number : ℕ) (sdu : List ℕ) (made : Made) (flows : Flows) (conn : Conn) → IsReady d i place number sdu → slice_get d.connections.flows.conns place ≡ Some conn → FlowsOffer d.clock place sdu d.connections.flows (Ok made) flows → (below : Seen) → LinksStand d below → AreOf 0 (map unnamed made.pdus) × ((p : IpcProcess) → slice_get d.processes i ≡ Some p → HasRoomFor 0 number (length (map unnamed made.pdus)) p)
 can_put d i place number sdu made flows conn r is_conn offers below links =
     let g = manage_config d in
-    let x = offers g links.lines links.tied in
+    let x = offers g links.lines links.tied (allocated_used d.clock d.connections.flows.journal.ends place r.here.end links.standing.journal r.here.is_end r.here.allocated) in
     let q = x.offers in
     let c = constants g q.cube q.its_ids in
     let names : q.its_ids ≡ names_at place r.here.channel.partner = same_some _ q.its_ids (names_at place r.here.channel.partner) q.place.is_conn.ids_are (links.standing.channels.names place r.here.channel r.here.stands) in
@@ -366,9 +356,9 @@ can_put d i place number sdu made flows conn r is_conn offers below links =
     )
 
 -- whatever list the IPC processes and the managements are kept in
-pub offers_done : (d : Dif) (i place number : ℕ) (sdu : List ℕ) (conn : Conn) (made : Made) (flows : Flows) (ps : List IpcProcess) (ms : List Management) → TellNeighbours d.managements → d.clock ≤ 10000000 → IsReady d i place number sdu → slice_get d.connections.flows.conns place ≡ Some conn → FlowsOffer d.clock place sdu d.connections.flows (Ok made) flows → Puts 0 number (queued conn.sending.form.cube.mpl d.clock (map unnamed made.pdus)) i d.processes ps → ms ≡ changed_at i (λ m. with_sent m number) d.managements
+pub offers_done : (d : Dif) (i place number : ℕ) (sdu : List ℕ) (conn : Conn) (made : Made) (flows : Flows) (ps : List IpcProcess) (ms : List Management) → TellShort d.managements → IsReady d i place number sdu → slice_get d.connections.flows.conns place ≡ Some conn → FlowsOffer d.clock place sdu d.connections.flows (Ok made) flows → Puts 0 number (queued conn.sending.form.cube.mpl d.clock (map unnamed made.pdus)) i d.processes ps → ms ≡ changed_at i (λ m. with_sent m number) d.managements
     → (lines : List Direction) (below : Seen) → Holds d lines below → IsOpenEnd d below i place number → OffersAt d lines below i number (Ok true) (record d { connections = record d.connections { flows = flows }; processes = ps; managements = ms })
-offers_done d i place number sdu conn made flows ps ms tell early r is_conn offers puts are lines below h open_end =
+offers_done d i place number sdu conn made flows ps ms tell r is_conn offers puts are lines below h open_end =
     let sent : ms ≡ slice_set d.managements i (with_sent r.first.management number) = are ∙ changed_is d.managements i (λ m. with_sent m number) r.first.management r.first.is_management in
     subst (λ (qs : List IpcProcess). OffersAt d lines below i number (Ok true) (record d { connections = record d.connections { flows = flows }; processes = qs; managements = ms })) (sym (puts r.process r.is_process).2)
-    (subst (λ (gs : List Management). OffersAt d lines below i number (Ok true) (record d { connections = record d.connections { flows = flows }; processes = slice_set d.processes i (puts r.process r.is_process).0; managements = gs })) (sym sent) (offers_at d i place number sdu conn made flows ps tell early r is_conn offers puts lines below h open_end))
+    (subst (λ (gs : List Management). OffersAt d lines below i number (Ok true) (record d { connections = record d.connections { flows = flows }; processes = slice_set d.processes i (puts r.process r.is_process).0; managements = gs })) (sym sent) (offers_at d i place number sdu conn made flows ps tell r is_conn offers puts lines below h open_end))

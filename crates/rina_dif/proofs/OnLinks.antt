@@ -51,6 +51,7 @@ use Rattle.rina_law.specs.Direction.{Direction, has_room}
 use Rattle.rina_law.specs.Line.{arrival_verdict}
 use Rattle.rina_law.specs.Pdus.{piece_in}
 use Rattle.rina_queue.proofs.Places.{first_passes}
+use Rattle.rina_flows.proofs.Unused.{allocated_used}
 use Rattle.rina_dif.specs.declared.connections.Connections.{Connections}
 use Rattle.rina_dif.specs.declared.dif.Dif.{Dif}
 use Rattle.rina_dif.specs.Connected.{channels_seen}
@@ -241,8 +242,8 @@ module _ (d : Dif) (at since : ℕ) (port : Port) (hop : Hop) (lines : List Dire
   -- an acknowledgement does its work
   ack_taken : (place : ℕ) (its : Pdu) (flows : Flows) (p : IpcProcess) → slice_get d.processes at ≡ Some p → hop.pdu.kind ≡ AnAck → IsLinkTaker d.connections port hop.pdu place its → TellsOne place its d.connections.flows flows → flows.journal.ends ≡ d.connections.flows.journal.ends → HasTaken d lines links below at since port hop took.Accepted (record d { connections = record d.connections { flows = flows } })
   ack_taken place its flows p is kind taker tells ends =
-      let t = tells (link_config g d.connections.manage) d.clock links h.connected.tied in
       let x = taker_at g d.clock d.connections links (seen_of d).processes below h.connected.standing port hop.pdu place its taker in
+      let t = tells (link_config g d.connections.manage) d.clock links h.connected.tied (allocated_used d.clock d.connections.flows.journal.ends place x.2.0 h.connected.standing.journal x.2.2.takes.is_conn.end x.2.2.takes.allocated) in
       let told : ToldAt links place (named x.0.partner place hop.pdu) t.lines' = subst (λ (z : Pdu). ToldAt links place z t.lines') x.1 t.told in
       let same : after flows ≡ m = ap (λ (es : List End). record m { ends = es; ids = conns_of flows.conns }) ends ∙ ap (λ (ids : List Ids). record m { ids = ids }) t.ids in
       let ack : TakesAck m links port hop.pdu (after flows) t.lines' = record { ack = kind; place = place; channel = x.0; end = x.2.0; ids = x.2.1; taker = x.2.2; told = told; new_is = same } in

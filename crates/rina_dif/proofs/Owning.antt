@@ -38,6 +38,7 @@ use Rattle.rina_flows.specs.declared.flows.Flows.{Flows}
 use Rattle.rina_flows.specs.Calls.{TakenBy, TellsOne}
 use Rattle.rina_flows.specs.Tied.{conns_of, ids_of}
 use Rattle.rina_flows.proofs.ArrivesAt.{is_arrived}
+use Rattle.rina_flows.proofs.Unused.{allocated_used}
 use Rattle.rina_dif.specs.declared.dif.Dif.{Dif}
 use Rattle.rina_dif.specs.Holding.{Holds, Stands}
 use Rattle.rina_dif.specs.Shown.{seen_of}
@@ -110,7 +111,7 @@ noted_err d at since hop cause e ps lt notes lines below h there =
 
 pub own_told : (d : Dif) (at since : ℕ) (hop : Hop) (place : ℕ) (flows : Flows) → IsOwn d at since hop → hop.pdu.kind ≡ AnAck → TakenBy d.flows.journal.ends (conns_of d.flows.conns) hop.pdu (Some place) → TellsOne place hop.pdu d.flows flows → flows.journal.ends ≡ d.flows.journal.ends → SettlesFor d at since hop (Ok took.Accepted) (record d { flows = flows })
 own_told d at since hop place flows own kind taken tells same lines below h there =
-    let t = tells (config_of d.settings) d.clock lines h.tied in
+    let t = tells (config_of d.settings) d.clock lines h.tied (allocated_used d.clock d.flows.journal.ends place taken.0 h.standing.journal taken.2.is_conn.end taken.2.allocated) in
     let seen : seen_of (record d { flows = flows }) ≡ seen_of d = seen_flows d flows d.flows.journal.ends same t.ids in
     record {
       lines' = t.lines';

@@ -44,6 +44,7 @@ use Rattle.rina_flows.specs.Timely.{AcknowledgesIn, IsDue, SendsAgainIn}
 use Rattle.rina_flows.proofs.Framed.{ids_at}
 use Rattle.rina_flows.proofs.Stopped.{clock_of}
 use Rattle.rina_flows.proofs.Timed.{ack_is_due, again_is_due, receiver_of}
+use Rattle.rina_flows.proofs.Unused.{allocated_used}
 use Rattle.rina_dif.specs.declared.dif.Dif.{Dif}
 use Rattle.rina_dif.specs.Holding.{Holds}
 use Rattle.rina_dif.specs.Shown.{seen_of}
@@ -249,7 +250,7 @@ pub sends_again : (d : Dif) (lines : List Direction) (below : Seen) (i at : ℕ)
 sends_again d lines below i at conn pdu s flows ps lt here is tells forwards does h =
     let g : Config = config_of d.settings in
     let d' : Dif = record d { flows = flows; processes = ps } in
-    let a = does g lines h.tied in
+    let a = does g lines h.tied (allocated_used d.clock d.flows.journal.ends at here.end h.standing.journal here.is_end here.allocated) in
     let c : Constants = outward g a.conn in
     let conn_is : conn ≡ a.conn = same_some (slice_get d.flows.conns at) conn a.conn is a.is_conn in
     let x = h.tied.sends at a.conn a.line a.is_conn a.is_line in

@@ -2,13 +2,12 @@
 use Rattle.std.proofs.Common.{◌≡◌, ◌∙◌, ℕ, ◌==◌, ◌||◌, Bool, true, false, cond, List, [], ◌∷◌, length, map, slice_get, Option, Some, None, Err, option_and_then, option_map, refl, sym, ap, arith}
 use Rattle.std.specs.Prelude.{find, nat_lt, position}
 use Rattle.std.specs.List.{list_any, position_or_len}
-use Rattle.std.specs.Option.{is_some}
 use Rattle.std.proofs.lemmas.Bool.Decides.{nat_tests}
 use Rattle.std.proofs.lemmas.List.Folds.{find_at}
 use Rattle.std.proofs.lemmas.Option.{slice_get_past}
 use Rattle.rina_cube.specs.declared.Cube.{Cube}
 use Rattle.rina_cube.specs.declared.Want.{Want}
-use Rattle.rina_cube.specs.Cubes.{fits, picked}
+use Rattle.rina_cube.specs.Cubes.{fits}
 use Rattle.rina_iface.specs.declared.ask.Ask.{Ask}
 use Rattle.rina_iface.specs.declared.error.AllocateError.{AllocateError}
 use Rattle.rina_iface.specs.declared.error.AllocateError.TheVariants as allocate
@@ -39,7 +38,7 @@ members_there node (m ∷ ms) = ap (λ (b : Bool). (m.node == node) || b) (membe
 
 -- The first cube that meets a wish
 
-found_by : {X : Type 0} (p : X → Bool) (xs : List X) → option_and_then (λ i. slice_get xs i) (position p xs) ≡ find p xs
+pub found_by : {X : Type 0} (p : X → Bool) (xs : List X) → option_and_then (λ i. slice_get xs i) (position p xs) ≡ find p xs
 found_by p xs = go (nat_lt (position_or_len p xs) (length xs)) refl
   where
     go : (b : Bool) → nat_lt (position_or_len p xs) (length xs) ≡ b → option_and_then (λ i. slice_get xs i) (cond b (Some (position_or_len p xs)) None) ≡ find p xs
@@ -50,22 +49,13 @@ fits_is : (want : Want) (c : Cube) → meets want (offer_of c) ≡ fits want c
 unfolding meets fits
 fits_is want c = refl
 
-offered_is : (want : Want) (cubes : List Cube) → offered (map offer_of cubes) want ≡ option_map offer_of (find (fits want) cubes)
+pub offered_is : (want : Want) (cubes : List Cube) → offered (map offer_of cubes) want ≡ option_map offer_of (find (fits want) cubes)
 offered_is want [] = refl
 offered_is want (c ∷ cs) = ap (λ (b : Bool). cond b (Some (offer_of c)) (offered (map offer_of cs) want)) (fits_is want c) ∙ go (fits want c) (offered_is want cs)
   where
     go : (b : Bool) → offered (map offer_of cs) want ≡ option_map offer_of (find (fits want) cs) → cond b (Some (offer_of c)) (offered (map offer_of cs) want) ≡ option_map offer_of (cond b (Some c) (find (fits want) cs))
     go true e = refl
     go false e = e
-
-some_mapped : {X Y Z : Type 0} (f : X → Y) (g : X → Z) (o : Option X) → is_some (option_map f o) ≡ is_some (option_map g o)
-some_mapped f g None = refl
-some_mapped f g (Some x) = refl
-
-pub met_is : (want : Want) (cubes : List Cube) → is_some (picked cubes want) ≡ is_some (offered (map offer_of cubes) want)
-met_is want cubes =
-    let found = found_by (fits want) cubes in
-    ap (λ (o : Option Cube). is_some (option_map (λ (c : Cube). c.id) o)) found ∙ some_mapped (λ (c : Cube). c.id) offer_of (find (fits want) cubes) ∙ ap is_some (sym (offered_is want cubes))
 
 -- What is refused is refused as on every facility
 
@@ -77,6 +67,6 @@ pub unregisters : (own : Option UnregisterError) (s : Seen) (n : ℕ) (d : Dif) 
 unregisters own s n d node app unregister.Memory r h = unchanged s n d d h refl
 unregisters own s n d node app e r h = (ap (λ (f : Option Fac). left.refused_in f node app own) h.here ∙ r, unchanged s n d d h refl)
 
-pub allocates : (s : Seen) (d : Dif) (ask : Ask) (e : AllocateError) → asks.refused_in (Some (fac_of (seen_of d))) ask (Some allocate.Unbuilt) ≡ Some e → IsShownAs s ask.fac d → Allocates (Some allocate.Unbuilt) s ask (Err e) (shown_as s ask.fac d)
-allocates s d ask allocate.Memory r h = unchanged s ask.fac d d h refl
-allocates s d ask e r h = (ap (λ (f : Option Fac). asks.refused_in f ask (Some allocate.Unbuilt)) h.here ∙ r, unchanged s ask.fac d d h refl)
+pub allocates : (own : Option AllocateError) (s : Seen) (d : Dif) (ask : Ask) (e : AllocateError) → asks.refused_in (Some (fac_of (seen_of d))) ask own ≡ Some e → IsShownAs s ask.fac d → Allocates own s ask (Err e) (shown_as s ask.fac d)
+allocates own s d ask allocate.Memory r h = unchanged s ask.fac d d h refl
+allocates own s d ask e r h = (ap (λ (f : Option Fac). asks.refused_in f ask own) h.here ∙ r, unchanged s ask.fac d d h refl)

@@ -45,14 +45,14 @@ use Rattle.rina_dif.specs.Holding.{Holds}
 use Rattle.rina_dif.specs.Managing.{AreManaged, AreManagedBy, IsManaged, states_of}
 use Rattle.rina_dif.specs.Registering.{AnswersEntry, RegistersManaged, UnregistersManaged, no_value, own_address, register_refusal, register_told, unregister_refusal, unregister_told}
 use Rattle.rina_dif.specs.Shown.{seen_of}
-use Rattle.rina_member.specs.Short.{TellsNeighbours}
+use Rattle.rina_member.specs.Short.{TellsShort}
 use Rattle.rina_dif.specs.Whole.{IsDif}
 use Rattle.rina_dif.proofs.Bound.{at_its_node}
 use Rattle.rina_dif.proofs.Enrolled.{enrolled_here, enrolled_home_is, enrolled_on, states_set, stay_same}
 use Rattle.rina_dif.proofs.Failing.{noted}
 use Rattle.rina_dif.proofs.Flooding.{made_floods}
 use Rattle.rina_dif.proofs.Naming.{may_register, may_unregister, unregisters_nowhere}
-use Rattle.rina_member.proofs.TellsNear.{makes_near}
+use Rattle.rina_member.proofs.Tells.{makes_short}
 use Rattle.rina_dif.proofs.Unlinked.{has_agent}
 
 -- the DIF with other names and managements
@@ -77,7 +77,7 @@ made_managed is_static members plans now m p app g g' h one = record {
   planned = λ still. subst (λ (z : Agent). IsPlanned members plans m p.links z) (sym h.makes) (planned_links members plans m p.links g.agent (made None g.agent now (key_of app) h.value) refl (one.planned still));
   bounded = one.bounded;
   routes = subst (λ (z : Agent). AreRoutesOf z members p.routes) (sym h.makes) (made_routes members p.routes g.agent now app h.value one.knows.keys one.routes);
-  tells = subst (λ (z : Agent). TellsNeighbours z) (sym h.makes) (makes_near g.agent now app h.value h.name h.own one.tells);
+  tells = subst (λ (z : Agent). TellsShort z) (sym h.makes) (makes_short g.agent now app h.value one.tells h.name h.own);
 }
 
 -- and so are all

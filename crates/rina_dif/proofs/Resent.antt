@@ -30,6 +30,7 @@ use Rattle.rina_channel.specs.Standing.{IsStanding}
 use Rattle.rina_channel.proofs.Calls.{calls_that_send_again_do}
 use Rattle.rina_channel.proofs.Fitting.{resending_serves_links}
 use Rattle.rina_channel.proofs.Putting.{resent_stands}
+use Rattle.rina_flows.proofs.Unused.{allocated_used}
 use Rattle.rina_dif.specs.declared.dif.Dif.{Dif}
 use Rattle.rina_dif.specs.Connected.{AreConnected, channels_seen}
 use Rattle.rina_dif.specs.Holding.{Holds, LinksStand}
@@ -73,7 +74,7 @@ module _ (d : Dif) (below : Seen) (i place number : ℕ) (conn : Conn) (pdu : Pd
   ps' = slice_set (seen_of d).processes i (process_of p.process')
 
   has : HasSentAgain g d.clock place old links.lines flows
-  has = does g links.lines links.tied
+  has = does g links.lines links.tied (allocated_used d.clock d.connections.flows.journal.ends place here.end links.standing.journal here.is_end here.allocated)
 
   abbrev c : Constants
   c = outward g has.conn

@@ -36,7 +36,7 @@ use Rattle.rina_member.specs.declared.management.Management.{Management}
 use Rattle.rina_flows.specs.declared.due.Item.{Item}
 use Rattle.rina_flows.specs.declared.due.Item.TheVariants.{Ack, Again, GiveUp, Gone}
 use Rattle.rina_dif.specs.declared.dif.Dif.{Dif}
-use Rattle.rina_dif.specs.Changing.{ManagesStep}
+use Rattle.rina_dif.specs.FlowEnds.{ManagesStep}
 use Rattle.rina_dif.specs.Claiming.{NoneComesAt}
 use Rattle.rina_dif.specs.Clocking.{ClockSteps, ClockStepsAt, FailsLate, IsIdle, NoneDue, NoneLostAt}
 use Rattle.rina_dif.specs.Elsewhere.{home_of}
@@ -45,9 +45,10 @@ use Rattle.rina_dif.specs.LinkDue.{NoLinkDue}
 use Rattle.rina_dif.specs.MessageSteps.{NoMessageAt}
 use Rattle.rina_channel.specs.Names.{link_config}
 use Rattle.rina_dif.specs.Resting.{IsAtRest, RestsUntil}
+use Rattle.rina_dif.specs.WaitingAsks.{NoneLate}
 use Rattle.rina_dif.specs.Shown.{seen_of}
 use Rattle.rina_dif.specs.Steps.{AsksAt, AsksHome, AtHome, OutsAt}
-use Rattle.rina_dif.specs.Taking.{Handles, InsAt, TakesHome, TakesLinks}
+use Rattle.rina_dif.specs.Taking.{AreBrought, Handles, InsAt, TakesHome, TakesLinks, TellsFlows, TellsNothing}
 
 -- Answers that tell that nothing was done
 
@@ -103,6 +104,7 @@ rests_later until clock now d below rest = record {
   messages = rest.messages;
   flows = rest.flows;
   links = rest.links;
+  asks = rest.asks;
 }
 
 -- What comes
@@ -152,8 +154,37 @@ module _ (until : ℕ) (d : Dif) (below : Seen) (node n : ℕ) (rest : RestsUnti
   none_handled (Some i) a none = absurd none
   none_handled None a none = refl
 
+  -- nor were messages about flows
+  brought_none : (i : ℕ) (a : Result InStep StepError) → TakesNone a → AreBrought d below i n a []
+  brought_none i (Ok ins.Idle) none = refl
+  brought_none i (Err NoLink) none = refl
+  brought_none i (Err NoIpc) none = refl
+  brought_none i a none = absurd none
+
+  none_told : (lines : List Direction) (h : Option ℕ) (a : Result InStep StepError) → TakesNone a → AtHome h (λ i. TellsFlows d below i n a d lines below a d lines) (TellsNothing a d lines a d lines)
+  none_told lines (Some i) a none = record { messages = []; are = brought_none i a none; stopped = Ok tt; handles = (refl, refl, refl); ends = refl }
+  none_told lines None a none = (refl, refl, refl)
+
   pub in_rests : (a : Result InStep StepError) × TakesNone a × ((lines : List Direction) → Holds d lines below → TakesHome d lines below node n a d below)
-  in_rests = (let a = in_home (home_of d node) refl in (a.0, a.1, λ lines h. record { lines' = lines; taken = d; does = a.2 lines; links = λ links. no_links (home_of d node) links.lines a.0 a.1; managed = refl; handles = none_handled (home_of d node) a.0 a.1; rerouted = inl refl; holds = h }))
+  in_rests = (let a = in_home (home_of d node) refl in (
+    a.0,
+    a.1,
+    λ lines h. record {
+      answer = a.0;
+      between = lines;
+      taken = d;
+      does = a.2 lines;
+      links = λ links. no_links (home_of d node) links.lines a.0 a.1;
+      managed = refl;
+      handled = d;
+      handles = none_handled (home_of d node) a.0 a.1;
+      rerouted = inl refl;
+      stood = h;
+      lines' = lines;
+      told = none_told lines (home_of d node) a.0 a.1;
+      holds = h;
+    },
+  ))
 
 -- What leaves
 
@@ -211,6 +242,9 @@ module _ (until : ℕ) (d : Dif) (below : Seen) (node : ℕ) (before : d.clock <
   no_link_due : (item : Item) (i : ℕ) (links : LinksStand d below) → NoLinkDue item d links.lines i
   no_link_due item i links = λ place number due. false≢true ((rest.links d.clock before place item (link_config (config_of d.settings) d.connections.manage) links.lines due.here.end links.standing.journal links.tied due.here.is_end due.here.allocated).1 due.due)
 
+  none_late : NoneLate d node
+  none_late = rest.asks d.clock node before
+
   none_lost : NoneLostAt d below node
   none_lost = λ i p here is. (rest.processes i p is).none_lost
 
@@ -221,7 +255,7 @@ module _ (until : ℕ) (d : Dif) (below : Seen) (node : ℕ) (before : d.clock <
   ClockAnswer = (a : Result ClockStep StepError) × DoesNone a × ((lines : List Direction) → Holds d lines below → ClockStepsAt d lines below node a d lines below) × ManagesStep a (home_of d node) d below node d.managements
 
   clock_home : (h : Option ℕ) → home_of d node ≡ h → ClockAnswer
-  clock_home (Some i) is = (Ok clocks.Idle, tt, λ lines h. at_home (home_of d node) i _ _ is (none_lost, record { mid = below; none = inl (none_comes, refl); holds = h; serves = inl (inl (record { does = (is_idle lines h, refl, refl); same = refl; same_below = refl; first = λ k here links. ((no_link_due Gone k links, no_link_due GiveUp k links, no_link_due Ack k links), no_link_due Again k links) }), no_message) }), refl)
+  clock_home (Some i) is = (Ok clocks.Idle, tt, λ lines h. at_home (home_of d node) i _ _ is (none_lost, record { mid = below; none = inl (none_comes, refl); holds = h; serves = inl (inl (record { does = (is_idle lines h, refl, refl); same = refl; same_below = refl; first = λ k here links. ((no_link_due Gone k links, no_link_due GiveUp k links, no_link_due Ack k links), no_link_due Again k links); no_ask = none_late }), no_message) }), refl)
   clock_home None is = (Err NoIpc, tt, λ lines h. not_home (home_of d node) _ _ is (refl, refl, refl, refl), refl)
 
   pub clock_rests : (a : Result ClockStep StepError) × DoesNone a × ((lines : List Direction) → Holds d lines below → ClockSteps d lines below node a d below)

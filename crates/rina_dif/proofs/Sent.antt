@@ -39,6 +39,7 @@ use Rattle.rina_flows.specs.declared.flows.Flows.{Flows}
 use Rattle.rina_flows.specs.Calls.{Accepts, Offers as FlowsOffer}
 use Rattle.rina_flows.specs.Tied.{conns_of, ids_of, outward}
 use Rattle.rina_flows.proofs.Framed.{ids_at}
+use Rattle.rina_flows.proofs.Unused.{allocated_used}
 use Rattle.rina_dif.specs.declared.dif.Dif.{Dif}
 use Rattle.rina_dif.specs.declared.send.FirstHop.{FirstHop}
 use Rattle.rina_dif.specs.Facade.{way_refusal}
@@ -176,7 +177,7 @@ pub can_put : (d : Dif) (at : ℕ) (sdu : List ℕ) (way : FirstHop) (made : Mad
 can_put d at sdu way made flows is a offers =
     let lines : List Direction = is.stands.0 in
     let h = is.stands.1 in
-    let o = offers (config_of d.settings) lines h.tied in
+    let o = offers (config_of d.settings) lines h.tied (allocated_used d.clock d.flows.journal.ends at a.end h.standing.journal a.is_at.end_is a.allocated) in
     let q = o.offers in
     let s = same_there d lines is.below at sdu way made flows h a o in
     let c = constants (config_of d.settings) q.cube q.its_ids in
@@ -264,7 +265,7 @@ accepted d lines below at sdu way made flows p' ps h a o put new =
 pub sends_made : (d : Dif) (at : ℕ) (sdu : List ℕ) (way : FirstHop) (made : Made) (flows : Flows) (ps : List IpcProcess) → IsAdmitted d at sdu way → FlowsOffer d.clock at sdu d.flows (Ok made) flows → Puts way.qos way.link (queued way.left d.clock made.pdus) way.home d.processes ps → (lines : List Direction) (below : Seen) → Holds d lines below → Sends d lines below at sdu (Ok made.num) (record d { processes = ps; flows = flows })
 sends_made d at sdu way made flows ps a offers puts lines below h =
     let g = config_of d.settings in
-    let o = offers g lines h.tied in
+    let o = offers g lines h.tied (allocated_used d.clock d.flows.journal.ends at a.end h.standing.journal a.is_at.end_is a.allocated) in
     let q = o.offers in
     let put = puts a.goes.process a.goes.is_process in
     let d' : Dif = record d { processes = ps; flows = flows } in

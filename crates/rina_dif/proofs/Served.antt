@@ -130,7 +130,7 @@ full_lawful : (d : DifSeen) (i : ℕ) (p : Process) (off : Off) → slice_get d.
 full_lawful d i p off is cause w =
     let Full : ℕ → Off → Type 0 = λ k x. x.cause ≡ causes.QueueFull d.config.cap in
     written_on Full d (with_process d i (with_offs p (off ∷ []))) (line_noted Full d (with_process d i (with_offs p (off ∷ []))) i p (with_offs p (off ∷ [])) off refl is refl refl cause)
-    (λ k x full member process q. inl (subst (WasLawful d.config d.clock d.conns member.addr process.links x.key) (sym full) refl)) w
+    (λ k x full member process q. inl (subst (WasLawful d.config d.clock d.ends d.conns member.addr process.links x.key) (sym full) refl)) w
 
 pub put_lawful : (d : DifSeen) (i : ℕ) (p p' : Process) → slice_get d.processes i ≡ Some p → p'.ledger ≡ p.ledger → p'.links ≡ p.links → AreWrittenOff d → AreWrittenOff (with_process d i p')
 put_lawful d i p p' is ledger links w = written_on Nothing d (with_process d i p') (kept_noted Nothing d (with_process d i p') i p p' refl is ledger links) (λ k x none member process q. absurd none) w

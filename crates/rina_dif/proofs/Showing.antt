@@ -31,7 +31,7 @@ use Rattle.rina_member.proofs.Laying.{small_address}
 use Rattle.rina_member.proofs.Lists.{is_there}
 use Rattle.rina_dif.specs.declared.dif.Dif.{Dif}
 use Rattle.rina_dif.specs.Binding.{BindsAt, BindsTo, MayBind, noting}
-use Rattle.rina_dif.specs.Changing.{EndsFlow, FreesManaged, ManagesFree, MayHoldFar, changed_at, cep_here, without_flow_if}
+use Rattle.rina_dif.specs.Changing.{EndsFlow, MayHoldFar, changed_at, cep_here, without_flow_if}
 use Rattle.rina_dif.specs.Elsewhere.{home_of}
 use Rattle.rina_dif.specs.Freeing.{FreesHere}
 use Rattle.rina_dif.specs.Holding.{Holds}
@@ -155,10 +155,3 @@ ends_more node ends conns old mid new at end conn is_end is_conn so is =
 
 pub ends_flow : (d : Dif) (i at : ℕ) (name : List ℕ) (new : List Management) → ((k : Conn) → slice_get d.flows.conns at ≡ Some k → name ≡ flow_name k.sending.form.peer.scep) → new ≡ changed_at i (λ m. with_objects m (removed m.objects name)) d.managements → EndsFlow d i at new
 ends_flow d i at name new named is k is_k = is ∙ ap (λ (t : List ℕ). changed_at i (λ m. with_objects m (removed m.objects t)) d.managements) (named k is_k)
-
--- that of an allocated end that is freed
-pub frees_managed : (d : Dif) (i at node : ℕ) (new : List Management) → at < length d.flows.journal.ends → ((e : End) → slice_get d.flows.journal.ends at ≡ Some e → (e.state ≡ Allocated) × (e.port.node ≡ node)) → home_of d node ≡ Some i → EndsFlow d i at new → FreesManaged {E = Memory} (Some at) (Ok tt) d new
-frees_managed d i at node new within ends here flow =
-    let e = there d.flows.journal.ends at within in
-    let end = ends e.0 e.1 in
-    (e.0, e.1, subst (λ (s : PortState). ManagesFree s d at e.0 new) (sym end.0) (i, ap (home_of d) end.1 ∙ here, flow))

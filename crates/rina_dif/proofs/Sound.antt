@@ -14,7 +14,7 @@ use Rattle.rina_plan.specs.declared.dif.LinkPlan.{LinkPlan}
 use Rattle.rina_plan.specs.declared.dif.MemberPlan.{MemberPlan}
 use Rattle.rina_plan.specs.declared.dif.WireEnds.{WireEnds}
 use Rattle.rina_plan.specs.Difs.{has_twice, is_misaddressed, has_unfit_pdu, is_misplaced, greatest_of}
-use Rattle.rina_plan.specs.Kept.{HasMembers}
+use Rattle.rina_plan.specs.Kept.{HasCubes, HasMembers}
 use Rattle.rina_plan.specs.Links.{has_unfit_link, is_unfit_link, is_member, is_there, rank_of}
 use Rattle.rina_stack.specs.declared.plan.Plan.{Plan}
 use Rattle.rina_stack.specs.Ranges.{IsFlowCube, IsRangedDif}
@@ -254,6 +254,7 @@ can_manage plan i d sound at =
     let places : HasMembers d = all_at HasMembers plan.difs i d sound.places at in
     let only = no_cube d.cubes (λ k c is. (all_at IsFlowCube d.cubes k c ranged.cubes is).id) in
     let most = ranged.pdu in
+    let apart : HasCubes d = all_at HasCubes plan.difs i d sound.ids at in
     record {
       managed = record {
         config = is_config plan i d sound at;
@@ -263,6 +264,7 @@ can_manage plan i d sound at =
         only = only;
         pdu = omega (arith, most);
       };
+      apart = apart.ids;
       zero = record {
         members = λ j a is zero.
             let p = planned plan d (processes_before plan.difs i) d.members j a is in

@@ -55,9 +55,9 @@ use Rattle.rina_dif.specs.Laying.{AreLaid, BindsAll, ends_of, links_from, ports_
 use Rattle.rina_dif.specs.Managing.{AreBounded, AreManagedBy, AreStarted, IsManaged, IsStarted}
 use Rattle.rina_dif.specs.Planned.{link_fixed, processes_before, settings_by}
 use Rattle.rina_dif.specs.Routing.{AreRouted, HaveFirstRoutes}
-use Rattle.rina_member.specs.Short.{TellsNeighbours}
+use Rattle.rina_member.specs.Short.{TellsShort}
 use Rattle.rina_dif.proofs.Managed.{is_among, its_agent}
-use Rattle.rina_member.proofs.TellsNear.{starts_near}
+use Rattle.rina_member.proofs.TellsStarting.{starts_short}
 use Rattle.rina_dif.proofs.Sound.{planned}
 
 same_some : {X : Type 0} (xs : List X) (k : ℕ) (a b : X) → slice_get xs k ≡ Some a → slice_get xs k ≡ Some b → a ≡ b
@@ -228,7 +228,7 @@ bare_one is_static s now rules allow m p g laid named among links routes one =
       planned = λ still. subst (λ (ls : List Link). IsPlanned s.members [] m ls g.agent) (sym links) (subst (IsPlanned s.members [] m []) (sym is) (first_planned is_static s.members [] one.access m [] among numbered refl still));
       bounded = subst AreBounded (sym links) (few_bounded [] numbered (omega arith));
       routes = subst (AreRoutesOf g.agent s.members) (sym routes) (none_of g.agent s.members (ap (λ (z : Agent). hops_of z.links) is ∙ no_links is_static s.members [] one.access m));
-      tells = subst (λ (z : Agent). TellsNeighbours z) (sym is) (starts_near is_static s.members [] one.access m [] laid named (λ x has. omega arith) among (omega arith));
+      tells = subst (λ (z : Agent). TellsShort z) (sym is) (starts_short s.members [] laid named (λ x has. omega arith) is_static one.access m [] among (omega arith));
     }
 
 pub bare_managed : (is_static : Bool) (s : Settings) (plans : List LinkPlan) (rules : List Rule) (allow : Bool) (now : ℕ) (ps : List IpcProcess) (managements : List Management) → plans ≡ [] → AreBare s ps → IsConfig (config_of s) → AreMembers (config_of s) → AreNamed s.members → AreStarted is_static s.cubes s.members plans rules allow (length s.members) ps managements → AreManagedBy is_static s.members plans now ps managements
@@ -437,7 +437,7 @@ made_managed plan i dif d old new laid_ports linked sound at are config members 
             planned = λ still. subst (λ (ls : List Link). IsPlanned d.settings.members dif.links m ls g.agent) (sym links) (subst (IsPlanned d.settings.members dif.links m (links_from 0 ports)) (sym is) (first_planned dif.is_static d.settings.members dif.links one.access m (links_from 0 ports) among (are_numbered ports) (all ∙ sym count) still));
             bounded = subst AreBounded (sym links) (few_bounded (links_from 0 ports) (are_numbered ports) (omega (arith, most, count)));
             routes = routed.routes k g p within is_g is_p;
-            tells = subst (λ (z : Agent). TellsNeighbours z) (sym is) (starts_near dif.is_static d.settings.members dif.links one.access m (links_from 0 ports) out named fewest among (omega (arith, most, count)));
+            tells = subst (λ (z : Agent). TellsShort z) (sym is) (starts_short d.settings.members dif.links out named fewest dif.is_static one.access m (links_from 0 ports) among (omega (arith, most, count)));
           };
     }
 

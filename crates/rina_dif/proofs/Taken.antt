@@ -1,9 +1,11 @@
 -- The oldest SDU of a link is taken.
-use Rattle.std.proofs.Common.{◌≡◌, ◌∙◌, ℕ, ◌<◌, Bool, List, length, slice_get, option_map, Option, Some, None, Result, Ok, Err, refl, sym, ap, subst, false, true, inl, inr}
-use Rattle.std.specs.Prelude.{◌↔◌, IsSome}
+use Rattle.std.proofs.Common.{◌≡◌, ◌∙◌, ℕ, ◌<◌, Bool, List, [], length, slice_get, option_map, Option, Some, None, Result, Ok, Err, refl, sym, ap, subst, false, true, inl, inr}
+use Rattle.std.specs.Prelude.{IsSome}
 use Rattle.std.proofs.lemmas.Option.{slice_get-map}
 use Rattle.rina_agent.specs.declared.state.AgentError.{AgentError}
 use Rattle.rina_agent.specs.declared.state.AgentError.TheVariants as agent
+use Rattle.rina_alloc.specs.declared.message.FlowMessage.{FlowMessage}
+use Rattle.rina_base.specs.declared.memory.Memory.{Memory as NoMemory}
 use Rattle.rina_base.specs.declared.number.Key.{Key}
 use Rattle.rina_base.specs.declared.number.Port.{Port}
 use Rattle.rina_base.specs.Pdus.{key_of}
@@ -28,6 +30,7 @@ use Rattle.rina_data.specs.Process.{Process, link_by}
 use Rattle.rina_dif_law.specs.Incoming.{Ins, Settles}
 use Rattle.rina_dif_law.specs.Sending.{home}
 use Rattle.rina_dif_law.specs.Standing.{IsStanding}
+use Rattle.rina_dif_law.specs.Upward.{IsSilent}
 use Rattle.rina_dif_law.proofs.Arrivals.{arrival, closed}
 use Rattle.rina_dif_law.proofs.Carries.{ins_carry}
 use Rattle.rina_dif_law.proofs.Coming.{ins_stand}
@@ -37,17 +40,20 @@ use Rattle.rina_data.proofs.Finding.{there}
 use Rattle.rina_dif_law.proofs.Landing.{ins_accounted}
 use Rattle.rina_dif_law.proofs.Partnered.{met}
 use Rattle.rina_dif_law.proofs.Spelled.{opened_spelling}
+use Rattle.rina_dif_law.proofs.Upper.{ins_silent}
 use Rattle.rina_dif_law.proofs.Warranted.{ins_written}
 use Rattle.rina_dif.specs.declared.dif.Dif.{Dif}
 use Rattle.rina_dif.specs.declared.messages_in.Handled.{Handled}
+use Rattle.rina_dif.specs.FlowMessages.{HandlesFlows, TakesFlows}
 use Rattle.rina_dif.specs.Handling.{HandlesAs}
 use Rattle.rina_dif.specs.Holding.{Holds, LinksStand}
 use Rattle.rina_dif.specs.Routing.{MayReroute}
 use Rattle.rina_dif.specs.Shown.{seen_of}
 use Rattle.rina_dif.specs.Steps.{AtHome}
 use Rattle.rina_dif.specs.Managing.{nodes_with}
-use Rattle.rina_dif.specs.Taking.{BringsAs, Handles, HandlesPiece, HasTaken, InsAt, IsOldest, IsThere, LacksFor, MayBring, TakesFor, TakesHome, TakesIn, TakesLinks}
+use Rattle.rina_dif.specs.Taking.{AreBrought, BringsAs, BringsFlows, EndsAs, Handles, HandlesPiece, HasTaken, InsAt, IsOldest, IsThere, LacksFor, MayBring, TakesFor, TakesHome, TakesIn, TakesLinks, TellsFlows, TellsNothing}
 use Rattle.rina_dif.proofs.Causing.{ins_caused}
+use Rattle.rina_dif.proofs.FlowWalk.{silent_rerouted}
 use Rattle.rina_dif.proofs.Handling.{handled_seen}
 use Rattle.rina_dif.proofs.Leaves.{shown_at}
 use Rattle.rina_dif.proofs.Connected.{taking_connected}
@@ -108,15 +114,61 @@ waits_there below port tick bytes lent = subst (λ (o : Option Entry). IsSome o)
 
 -- What is answered
 
+-- no messages about flows came
+tells_none : (d d' : Dif) (lines : List Direction) (below below' : Seen) (at n : ℕ) (answer : Result InStep StepError) → AreBrought d below at n answer [] → TellsFlows d below at n answer d' lines below' answer d' lines
+tells_none d d' lines below below' at n answer none = record { messages = []; are = none; stopped = Ok tt; handles = (refl, refl, refl); ends = refl }
+
 pub no_link : (d : Dif) (lines : List Direction) (below : Seen) (at n : ℕ) (p : IpcProcess) → slice_get d.processes at ≡ Some p → link_by n p.links ≡ None → Holds d lines below → TakesIn d lines below at n (Err NoLink) d below
-no_link d lines below at n p is none h = record { lines' = lines; does = (record { process = process_of p; is_process = shown_at d at p is; none = none }, refl, refl, refl); taken = d; links = λ links. refl; managed = refl; handles = refl; rerouted = inl refl; holds = h }
+no_link d lines below at n p is none h = record {
+  answer = Err NoLink;
+  between = lines;
+  taken = d;
+  does = (record { process = process_of p; is_process = shown_at d at p is; none = none }, refl, refl, refl);
+  links = λ links. refl;
+  managed = refl;
+  handled = d;
+  handles = refl;
+  rerouted = inl refl;
+  stood = h;
+  lines' = lines;
+  told = tells_none d d lines below below at n (Err NoLink) refl;
+  holds = h;
+}
 
 pub none_waits : (d : Dif) (lines : List Direction) (below : Seen) (at n : ℕ) (p : IpcProcess) (link : Link) → slice_get d.processes at ≡ Some p → link_by n p.links ≡ Some link → unpassed below link.port ≡ None → Holds d lines below → TakesIn d lines below at n (Ok in_.Idle) d below
-none_waits d lines below at n p link is is_link none h = record { lines' = lines; does = (record { process = process_of p; link = link; is_process = shown_at d at p is; is_link = is_link; none = none }, refl, refl, refl); taken = d; links = λ links. refl; managed = refl; handles = refl; rerouted = inl refl; holds = h }
+none_waits d lines below at n p link is is_link none h = record {
+  answer = Ok in_.Idle;
+  between = lines;
+  taken = d;
+  does = (record { process = process_of p; link = link; is_process = shown_at d at p is; is_link = is_link; none = none }, refl, refl, refl);
+  links = λ links. refl;
+  managed = refl;
+  handled = d;
+  handles = refl;
+  rerouted = inl refl;
+  stood = h;
+  lines' = lines;
+  told = tells_none d d lines below below at n (Ok in_.Idle) refl;
+  holds = h;
+}
 
 pub took_none : (d : Dif) (lines : List Direction) (below : Seen) (at n : ℕ) (d' : Dif) (e : StepError) (r : Result InStep StepError) → e ≡ Memory → r ≡ Err e → (seen_of d' ≡ seen_of d) × Holds d' lines below × (d'.connections ≡ d.connections) → d'.managements ≡ d.managements → TakesIn d lines below at n r d' below
 took_none d lines below at n d' e r is err same managed =
-    subst (λ (v : Result InStep StepError). TakesIn d lines below at n v d' below) (sym (err ∙ ap (λ (z : StepError). Err z) is)) (record { lines' = lines; taken = d'; does = (same.0, refl, refl); links = λ links. same.2; managed = managed; handles = refl; rerouted = inl refl; holds = same.1 })
+    subst (λ (v : Result InStep StepError). TakesIn d lines below at n v d' below) (sym (err ∙ ap (λ (z : StepError). Err z) is)) (record {
+      answer = Err Memory;
+      between = lines;
+      taken = d';
+      does = (same.0, refl, refl);
+      links = λ links. same.2;
+      managed = managed;
+      handled = d';
+      handles = refl;
+      rerouted = inl refl;
+      stood = same.1;
+      lines' = lines;
+      told = tells_none d d' lines below below at n (Err Memory) refl;
+      holds = same.1;
+    })
 
 -- an SDU was taken, which made this DIF of it
 pub record HasTakenOne (d : Dif) (lines : List Direction) (below : Seen) (at n : ℕ) (key : Key) (end : Took) (taken : Dif) (below' : Seen) : Type 0 where
@@ -188,31 +240,59 @@ handled_stands : (at n : ℕ) (found : Option Handled) (taken : Dif) (lines' : L
 handled_stands at n (Some w) taken lines' below' d' h s = s.1
 handled_stands at n None taken lines' below' d' h same = subst (λ (z : Dif). Holds z lines' below') (sym same) h
 
-pub took_and_handled : (d : Dif) (lines : List Direction) (below : Seen) (at n since : ℕ) (p : IpcProcess) (link : Link) (hop : Hop) (key : Key) (end : Took) (taken : Dif) (below' : Seen) (found : Option Handled) (d' : Dif) → slice_get d.processes at ≡ Some p → link_by n p.links ≡ Some link → IsOldest (config_of d.settings) below link.port since hop
-    → HasTakenOne d lines below at n key end taken below' → MayBring d at n since link.port hop found → ((lines' : List Direction) (b : Seen) → Holds taken lines' b → HandlesAs taken lines' b at n found d') → taken.managements ≡ d.managements → TakesIn d lines below at n (Ok (in_.Took key end)) d' below'
-took_and_handled d lines below at n since p link hop key end taken below' found d' is is_link oldest t ahead handles managed =
+-- the DIF as it is behind the messages of neighbours
+pub handled_holds : (d : Dif) (lines : List Direction) (below : Seen) (at n : ℕ) (key : Key) (end : Took) (taken : Dif) (below' : Seen) (found : Option Handled) (mid : Dif) → HasTakenOne d lines below at n key end taken below' → ((lines' : List Direction) (b : Seen) → Holds taken lines' b → HandlesAs taken lines' b at n found mid) → (lines' : List Direction) × Holds mid lines' below'
+handled_holds d lines below at n key end taken below' found mid t handles = (t.lines', handled_stands at n found taken t.lines' below' mid t.holds (handles t.lines' below' t.holds))
+
+pub handled_silent : (d : Dif) (lines : List Direction) (below : Seen) (at n : ℕ) (key : Key) (end : Took) (taken : Dif) (below' : Seen) (found : Option Handled) (mid : Dif) → Holds d lines below → HasTakenOne d lines below at n key end taken below' → ((lines' : List Direction) (b : Seen) → Holds taken lines' b → HandlesAs taken lines' b at n found mid) → IsSilent (seen_of d) (seen_of mid)
+handled_silent d lines below at n key end taken below' found mid h t handles =
+    silent_rerouted (seen_of d) (seen_of taken) (seen_of mid) (handled_reroutes at n found taken t.lines' below' mid t.holds (handles t.lines' below' t.holds)) (ins_silent (seen_of d) lines below at n (Ok (in_.Took key end)) (seen_of taken) t.lines' below' h.standing t.does)
+
+-- `mid` is the DIF behind the messages of neighbours, and those about flows come then
+pub took_and_handled : (d : Dif) (lines : List Direction) (below : Seen) (at n since : ℕ) (p : IpcProcess) (link : Link) (hop : Hop) (key : Key) (end : Took) (taken : Dif) (below' : Seen) (found : Option Handled) (mid : Dif) (ms : List FlowMessage) (stopped : Result (Unit {0}) NoMemory) (r : Result InStep StepError) (d' : Dif) → slice_get d.processes at ≡ Some p → link_by n p.links ≡ Some link → IsOldest (config_of d.settings) below link.port since hop
+    → HasTakenOne d lines below at n key end taken below' → MayBring d at n since link.port hop found → ((lines' : List Direction) (b : Seen) → Holds taken lines' b → HandlesAs taken lines' b at n found mid) → taken.managements ≡ d.managements
+    → BringsFlows d since link.port hop ms → ((lines' : List Direction) (b : Seen) → Holds mid lines' b → TakesFlows mid lines' b at ms stopped d') → d'.failed ≡ mid.failed → EndsAs stopped (Ok (in_.Took key end)) r → TakesIn d lines below at n r d' below'
+took_and_handled d lines below at n since p link hop key end taken below' found mid ms stopped r d' is is_link oldest t ahead handles managed brings tells failed ends =
     let s = handles t.lines' below' t.holds in
+    let stood = handled_stands at n found taken t.lines' below' mid t.holds s in
+    let u = tells t.lines' below' stood in
     record {
-      lines' = t.lines';
+      answer = Ok (in_.Took key end);
+      between = t.lines';
       taken = taken;
       does = t.does;
       links = t.links;
       managed = managed;
-      handles = record { process = p; is_process = is; link = link; is_link = is_link; since = since; hop = hop; is_oldest = oldest; handles = handles_piece d at n since link.port hop found taken t.lines' below' d' ahead s };
-      rerouted = handled_reroutes at n found taken t.lines' below' d' t.holds s;
-      holds = handled_stands at n found taken t.lines' below' d' t.holds s;
+      handled = mid;
+      handles = record { process = p; is_process = is; link = link; is_link = is_link; since = since; hop = hop; is_oldest = oldest; handles = handles_piece d at n since link.port hop found taken t.lines' below' mid ahead s };
+      rerouted = handled_reroutes at n found taken t.lines' below' mid t.holds s;
+      stood = stood;
+      lines' = u.lines';
+      told = record {
+        messages = ms;
+        are = record { process = p; is_process = is; link = link; is_link = is_link; since = since; hop = hop; is_oldest = oldest; brings = brings };
+        stopped = stopped;
+        handles = subst (λ (z : Dif). HandlesFlows mid t.lines' below' at ms stopped z u.lines') (ap (λ (b : Bool). record d' { failed = b }) failed) u.handles;
+        ends = ends;
+      };
+      holds = u.holds;
     }
 
 -- for what it makes whole the member has too few counts left
 lacks_counts : (d : Dif) (lines : List Direction) (below : Seen) (at n since : ℕ) (p : IpcProcess) (link : Link) (hop : Hop) (need left : ℕ) → slice_get d.processes at ≡ Some p → link_by n p.links ≡ Some link → IsOldest (config_of d.settings) below link.port since hop → LacksFor d at n since link.port hop need left → Holds d lines below → TakesIn d lines below at n (Err (CountSpent need left)) d below
 lacks_counts d lines below at n since p link hop need left is is_link oldest lacks h = record {
-  lines' = lines;
+  answer = Err (CountSpent need left);
+  between = lines;
   taken = d;
   does = (refl, refl, refl);
   links = λ links. refl;
   managed = refl;
+  handled = d;
   handles = (record { process = p; is_process = is; link = link; is_link = is_link; since = since; hop = hop; is_oldest = oldest; lacks = lacks }, refl);
   rerouted = inl refl;
+  stood = h;
+  lines' = lines;
+  told = tells_none d d lines below below at n (Err (CountSpent need left)) refl;
   holds = h;
 }
 
@@ -245,70 +325,79 @@ either_home None P Q p q = q
 -- what it does there
 home_takes : (d : Dif) (lines : List Direction) (below : Seen) (node n at : ℕ) (r : Result InStep StepError) (d' : Dif) (below' : Seen) → home node (config_of d.settings).members ≡ Some at → TakesIn d lines below at n r d' below' → TakesHome d lines below node n r d' below'
 home_takes d lines below node n at r d' below' here t = record {
-  lines' = t.lines';
+  answer = t.answer;
+  between = t.between;
   taken = t.taken;
-  does = ins_at (seen_of d) lines below node n at r (seen_of t.taken) t.lines' below' here t.does;
-  links = λ links. at_home (home node (config_of d.settings).members) at (λ i. TakesLinks d links.lines below i n r t.taken) _ here (t.links links);
+  does = ins_at (seen_of d) lines below node n at t.answer (seen_of t.taken) t.between below' here t.does;
+  links = λ links. at_home (home node (config_of d.settings).members) at (λ i. TakesLinks d links.lines below i n t.answer t.taken) _ here (t.links links);
   managed = t.managed;
-  handles = at_home (home node (config_of d.settings).members) at (λ i. Handles d below i n r t.taken below' d') _ here t.handles;
+  handled = t.handled;
+  handles = at_home (home node (config_of d.settings).members) at (λ i. Handles d below i n t.answer t.taken below' t.handled) _ here t.handles;
   rerouted = t.rerouted;
+  stood = t.stood;
+  lines' = t.lines';
+  told = at_home (home node (config_of d.settings).members) at (λ i. TellsFlows d below i n t.answer t.handled t.between below' r d' t.lines') _ here t.told;
   holds = t.holds;
 }
-
--- no allocation failed where there is an answer
-none_failed : (failed : Bool) (x : InStep) → failed ≡ true ↔ (Ok x ≡ Err Memory) → failed ≡ false
-none_failed false x noted = refl
-none_failed true x noted = (let wrong : Ok x ≡ Err Memory = noted.0 refl in absurd cc)
 
 both_home : (o : Option ℕ) (P Q : ℕ → Type 0) (X Y : Type 0) → ((k : ℕ) → P k → Q k) → (X → Y) → AtHome o P X → AtHome o Q Y
 both_home (Some k) P Q X Y f g p = f k p
 both_home None P Q X Y f g p = g p
 
-noted_handles : (d : Dif) (below : Seen) (i n : ℕ) (e : StepError) (taken d' : Dif) (below' : Seen) (failed : Bool) → Handles d below i n (Err e) taken below' d' → Handles d below i n (Err e) (record taken { failed = failed }) below' (record d' { failed = failed })
-noted_handles d below i n Memory taken d' below' failed same = ap (λ (z : Dif). record z { failed = failed }) same
-noted_handles d below i n NoIpc taken d' below' failed same = ap (λ (z : Dif). record z { failed = failed }) same
-noted_handles d below i n NoLink taken d' below' failed same = ap (λ (z : Dif). record z { failed = failed }) same
-noted_handles d below i n (CountSpent need left) taken d' below' failed h = (h.0, ap (λ (z : Dif). record z { failed = failed }) h.1)
-
 -- and whether an allocation failed is noted
-home_noted : (d : Dif) (lines : List Direction) (below : Seen) (node n : ℕ) (r : Result InStep StepError) (d' : Dif) (failed : Bool) (below' : Seen) → d'.failed ≡ false → failed ≡ true ↔ (r ≡ Err Memory) → TakesHome d lines below node n r d' below' → TakesHome d lines below node n r (record d' { failed = failed }) below'
-home_noted d lines below node n (Ok x) d' failed below' alive noted t =
-    subst (λ (z : Dif). TakesHome d lines below node n (Ok x) z below') (ap (λ (b : Bool). record d' { failed = b }) (alive ∙ sym (none_failed failed x noted))) t
-home_noted d lines below node n (Err e) d' failed below' alive noted t = record {
-  lines' = t.lines';
-  taken = record t.taken { failed = failed };
+home_noted : (d : Dif) (lines : List Direction) (below : Seen) (node n : ℕ) (r : Result InStep StepError) (d' : Dif) (failed : Bool) (below' : Seen) → d'.failed ≡ false → TakesHome d lines below node n r d' below' → TakesHome d lines below node n r (record d' { failed = failed }) below'
+home_noted d lines below node n r d' failed below' alive t = record {
+  answer = t.answer;
+  between = t.between;
+  taken = t.taken;
   does = t.does;
   links = t.links;
   managed = t.managed;
-  handles = both_home (home node (config_of d.settings).members) (λ i. Handles d below i n (Err e) t.taken below' d') (λ i. Handles d below i n (Err e) (record t.taken { failed = failed }) below' (record d' { failed = failed })) (d' ≡ t.taken) (record d' { failed = failed } ≡ record t.taken { failed = failed }) (λ i h. noted_handles d below i n e t.taken d' below' failed h) (λ same. ap (λ (z : Dif). record z { failed = failed }) same) t.handles;
+  handled = t.handled;
+  handles = t.handles;
   rerouted = t.rerouted;
+  stood = t.stood;
+  lines' = t.lines';
+  told = both_home (home node (config_of d.settings).members) (λ i. TellsFlows d below i n t.answer t.handled t.between below' r d' t.lines') (λ i. TellsFlows d below i n t.answer t.handled t.between below' r (record d' { failed = failed }) t.lines')
+      (TellsNothing t.answer t.handled t.between r d' t.lines') (TellsNothing t.answer t.handled t.between r (record d' { failed = failed }) t.lines')
+      (λ i told. record { messages = told.messages; are = told.are; stopped = told.stopped; handles = told.handles; ends = told.ends }) (λ none. none) t.told;
   holds = record { tied = t.holds.tied; standing = t.holds.standing; carrying = t.holds.carrying; numbered = t.holds.numbered; accounted = t.holds.accounted; caused = t.holds.caused; written_off = t.holds.written_off; housed = t.holds.housed; managed = t.holds.managed; enrolled = t.holds.enrolled; connected = t.holds.connected; flooded = λ still. t.holds.flooded alive };
 }
 
-pub takes_home : (d : Dif) (lines : List Direction) (below : Seen) (node n at : ℕ) (r r' : Result InStep StepError) (d' : Dif) (failed : Bool) (below' : Seen) → d'.failed ≡ false → home node (config_of d.settings).members ≡ Some at → r' ≡ r → failed ≡ true ↔ (r ≡ Err Memory) → TakesIn d lines below at n r d' below' → TakesHome d lines below node n r' (record d' { failed = failed }) below'
-takes_home d lines below node n at r r' d' failed below' alive here same noted t =
-    subst (λ (v : Result InStep StepError). TakesHome d lines below node n v (record d' { failed = failed }) below') (sym same) (home_noted d lines below node n r d' failed below' alive noted (home_takes d lines below node n at r d' below' here t))
+pub takes_home : (d : Dif) (lines : List Direction) (below : Seen) (node n at : ℕ) (r r' : Result InStep StepError) (d' : Dif) (failed : Bool) (below' : Seen) → d'.failed ≡ false → home node (config_of d.settings).members ≡ Some at → r' ≡ r → TakesIn d lines below at n r d' below' → TakesHome d lines below node n r' (record d' { failed = failed }) below'
+takes_home d lines below node n at r r' d' failed below' alive here same t =
+    subst (λ (v : Result InStep StepError). TakesHome d lines below node n v (record d' { failed = failed }) below') (sym same) (home_noted d lines below node n r d' failed below' alive (home_takes d lines below node n at r d' below' here t))
 
 pub takes_none : (d : Dif) (lines : List Direction) (below : Seen) (node n : ℕ) → Holds d lines below → TakesHome d lines below node n (Err Memory) d below
 takes_none d lines below node n h = record {
-  lines' = lines;
+  answer = Err Memory;
+  between = lines;
   taken = d;
   does = (refl, refl, refl);
   links = λ links. either_home (home node (config_of d.settings).members) (λ i. TakesLinks d links.lines below i n (Err Memory) d) _ (λ k. refl) refl;
   managed = refl;
+  handled = d;
   handles = either_home (home node (config_of d.settings).members) (λ i. Handles d below i n (Err Memory) d below d) _ (λ k. refl) refl;
   rerouted = inl refl;
+  stood = h;
+  lines' = lines;
+  told = either_home (home node (config_of d.settings).members) (λ i. TellsFlows d below i n (Err Memory) d lines below (Err Memory) d lines) _ (λ k. tells_none d d lines below below k n (Err Memory) refl) (refl, refl, refl);
   holds = h;
 }
 
 pub takes_nowhere : (d : Dif) (lines : List Direction) (below : Seen) (node n : ℕ) → home node (config_of d.settings).members ≡ None → Holds d lines below → TakesHome d lines below node n (Err NoIpc) d below
 takes_nowhere d lines below node n none h = record {
-  lines' = lines;
+  answer = Err NoIpc;
+  between = lines;
   taken = d;
   does = not_home (home node (config_of d.settings).members) (λ k. Ins (seen_of d) lines below k n (Err NoIpc) (seen_of d) lines below) _ none (refl, refl, refl, refl);
   links = λ links. not_home (home node (config_of d.settings).members) (λ i. TakesLinks d links.lines below i n (Err NoIpc) d) _ none refl;
   managed = refl;
+  handled = d;
   handles = not_home (home node (config_of d.settings).members) (λ i. Handles d below i n (Err NoIpc) d below d) _ none refl;
   rerouted = inl refl;
+  stood = h;
+  lines' = lines;
+  told = not_home (home node (config_of d.settings).members) (λ i. TellsFlows d below i n (Err NoIpc) d lines below (Err NoIpc) d lines) _ none (refl, refl, refl);
   holds = h;
 }

@@ -9,7 +9,7 @@ use Rattle.rina_member.specs.declared.management.Management.{Management}
 use Rattle.rina_member.specs.Managements.{HandlesSdu}
 use Rattle.rina_member.proofs.Enrolled.{handles_enrolled}
 use Rattle.rina_dif.specs.Flooding.{texts_of}
-use Rattle.rina_dif.specs.Handling.{AnswersInTurn, AnswersOne, HandlesInTurn, HandlesOne, LacksInTurn, or_same}
+use Rattle.rina_dif.specs.Handling.{AnswersInTurn, HandlesInTurn, HandlesOne, LacksInTurn, or_same}
 
 -- One more
 
@@ -51,29 +51,29 @@ lacks_on now number need left [] ys m mid same lacks = subst (λ (g : Management
 lacks_on now number need left (x ∷ xs) ys m mid h lacks = inr (h.0, h.1, lacks_on now number need left xs ys h.0 mid h.2 lacks)
 
 -- at one of these bodies, after those before
-pub body_stops : (now number : ℕ) (bodies : List (List ℕ)) (n : ℕ) (d sdu : List ℕ) (m mid : Management) (e : AgentError) → n < length bodies → sdu ≡ get_or bodies n d → HandlesInTurn now number (take n bodies) m mid → AnswersOne now number sdu mid (Err e) → AnswersInTurn now number bodies m (Err e)
-body_stops now number bodies n d sdu m mid Memory lt is h one = tt
-body_stops now number bodies n d sdu m mid (CountSpent need left) lt is h one =
+pub body_stops : (now number : ℕ) (bodies : List (List ℕ)) (n : ℕ) (d sdu : List ℕ) (first m mid : Management) (e : AgentError) → n < length bodies → sdu ≡ get_or bodies n d → HandlesInTurn now number (take n bodies) m mid → HandlesSdu now number sdu mid (Err e) → AnswersInTurn now number bodies first m (Err e)
+body_stops now number bodies n d sdu first m mid Memory lt is h one = tt
+body_stops now number bodies n d sdu first m mid (CountSpent need left) lt is h one =
     let here : LacksInTurn now number need left (take (n + 1) bodies) m = subst (λ (ts : List (List ℕ)). LacksInTurn now number need left ts m) (sym (take_more bodies n d lt)) (lacks_end now number need left (take n bodies) (get_or bodies n d) m mid h (subst (λ (t : List ℕ). HandlesSdu now number t mid (Err (CountSpent need left))) is one)) in
     subst (λ (ts : List (List ℕ)). LacksInTurn now number need left ts m) (take-append-drop (n + 1) bodies) (lacks_more now number need left (take (n + 1) bodies) (drop (n + 1) bodies) m here)
 
 -- at one of these entries
-pub turn_stops : (now number : ℕ) (came : List Entry) (n : ℕ) (d : Entry) (sdu : List ℕ) (m mid : Management) (e : AgentError) → n < length came → sdu ≡ (get_or came n d).bytes → HandlesInTurn now number (texts_of (take n came)) m mid → AnswersOne now number sdu mid (Err e) → AnswersInTurn now number (texts_of came) m (Err e)
-turn_stops now number came n d sdu m mid Memory lt is h one = tt
-turn_stops now number came n d sdu m mid (CountSpent need left) lt is h one =
+pub turn_stops : (now number : ℕ) (came : List Entry) (n : ℕ) (d : Entry) (sdu : List ℕ) (first m mid : Management) (e : AgentError) → n < length came → sdu ≡ (get_or came n d).bytes → HandlesInTurn now number (texts_of (take n came)) m mid → HandlesSdu now number sdu mid (Err e) → AnswersInTurn now number (texts_of came) first m (Err e)
+turn_stops now number came n d sdu first m mid Memory lt is h one = tt
+turn_stops now number came n d sdu first m mid (CountSpent need left) lt is h one =
     let here : LacksInTurn now number need left (texts_of (take (n + 1) came)) m = subst (λ (ts : List (List ℕ)). LacksInTurn now number need left ts m) (sym (texts_more came n d lt)) (lacks_end now number need left (texts_of (take n came)) (get_or came n d).bytes m mid h (subst (λ (t : List ℕ). HandlesSdu now number t mid (Err (CountSpent need left))) is one)) in
     let both : texts_of came ≡ texts_of (take (n + 1) came) ++ texts_of (drop (n + 1) came) = ap texts_of (sym (take-append-drop (n + 1) came)) ∙ map-append (λ (x : Entry). x.bytes) (take (n + 1) came) (drop (n + 1) came) in
     subst (λ (ts : List (List ℕ)). LacksInTurn now number need left ts m) (sym both) (lacks_more now number need left (texts_of (take (n + 1) came)) (texts_of (drop (n + 1) came)) m here)
 
 -- whichever of two runs of SDUs it is
-pub stops_first : (now number : ℕ) (xs ys : List (List ℕ)) (m : Management) (e : AgentError) → AnswersInTurn now number xs m (Err e) → AnswersInTurn now number (xs ++ ys) m (Err e)
-stops_first now number xs ys m Memory h = tt
-stops_first now number xs ys m (CountSpent need left) h = lacks_more now number need left xs ys m h
+pub stops_first : (now number : ℕ) (xs ys : List (List ℕ)) (first m : Management) (e : AgentError) → AnswersInTurn now number xs first m (Err e) → AnswersInTurn now number (xs ++ ys) first m (Err e)
+stops_first now number xs ys first m Memory h = tt
+stops_first now number xs ys first m (CountSpent need left) h = lacks_more now number need left xs ys m h
 
-pub answers_on : (now number : ℕ) (xs ys : List (List ℕ)) (m mid : Management) (r : Result Management AgentError) → HandlesInTurn now number xs m mid → AnswersInTurn now number ys mid r → AnswersInTurn now number (xs ++ ys) m r
-answers_on now number xs ys m mid (Ok m') g h = turns_on now number xs ys m mid m' g h
-answers_on now number xs ys m mid (Err Memory) g h = tt
-answers_on now number xs ys m mid (Err (CountSpent need left)) g h = lacks_on now number need left xs ys m mid g h
+pub answers_on : (now number : ℕ) (xs ys : List (List ℕ)) (first m mid : Management) (r : Result (Option Management) AgentError) → HandlesInTurn now number xs m mid → AnswersInTurn now number ys first mid r → AnswersInTurn now number (xs ++ ys) first m r
+answers_on now number xs ys first m mid (Ok told) g h = turns_on now number xs ys m mid (or_same first told) g h
+answers_on now number xs ys first m mid (Err Memory) g h = tt
+answers_on now number xs ys first m mid (Err (CountSpent need left)) g h = lacks_on now number need left xs ys m mid g h
 
 -- It stays enrolled
 

@@ -14,7 +14,9 @@ use Rattle.rina_iface.specs.declared.error.SendError.{SendError}
 use Rattle.rina_iface.specs.declared.error.SendError.TheVariants as send
 use Rattle.rina_iface.specs.declared.state.PortState.{PortState}
 use Rattle.rina_iface.specs.declared.state.PortState.TheVariants.{Allocated, Closed, Failed, Pending, Refused}
+use Rattle.rina_iface.specs.Journal.{At}
 use Rattle.rina_iface.specs.Seen.{Seen}
+use Rattle.rina_iface.specs.State.{freed, freed_state}
 use Rattle.rina_iface.proofs.Grown.{still_at}
 use Rattle.rina_law.specs.Direction.{Direction}
 use Rattle.rina_data.specs.declared.step.ClockStep.{ClockStep}
@@ -40,8 +42,8 @@ use Rattle.rina_iface.proofs.Changed.{slice_get-set_same}
 use Rattle.rina_law.specs.Lists.{In}
 use Rattle.rina_dif_law.proofs.Accounting.{lost_accounted}
 use Rattle.rina_dif_law.proofs.Linkless.{lost_carries, lost_numbered, lost_stands}
-use Rattle.rina_dif_law.proofs.Warranted.{acknowledged_noted, ended_noted, failed_noted, forgotten_noted, ins_noted, lost_noted, offers_noted, outs_noted, passed_noted, resent_noted}
-use Rattle.rina_dif_law.proofs.Writing.{IsNoted, kept_noted, line_noted, noted_as, noted_on, ports_same, process_noted, quiet_noted, same_noted, writes}
+use Rattle.rina_dif_law.proofs.Warranted.{acknowledged_noted, ended_noted, failed_noted, forgotten_noted, ins_noted, lost_noted, offers_noted, outs_noted, passed_noted, resent_noted, turned_down_noted}
+use Rattle.rina_dif_law.proofs.Writing.{IsNoted, kept_noted, known_set, line_noted, noted_as, noted_on, ports_same, process_noted, quiet_noted, same_noted, writes}
 use Rattle.rina_channel.specs.FlowLaws.{FlowsStand, HasNoZero}
 use Rattle.rina_dif.proofs.Leaves.{shown_at}
 use Rattle.rina_dif.proofs.Closing.{closes_held, closes_lines, noted_stand}
@@ -59,8 +61,9 @@ use Rattle.rina_dif.specs.Sending.{SendsAt}
 use Rattle.rina_dif.specs.Shown.{seen_of}
 use Rattle.rina_dif.specs.Steps.{AtHome, OutsAt}
 use Rattle.rina_dif.specs.Routing.{MayReroute}
-use Rattle.rina_dif.specs.Taking.{InsAt, TakesHome}
-use Rattle.rina_dif.specs.WriteOffs.{MayByClock, MayFillOff}
+use Rattle.rina_dif.specs.Taking.{InsAt, TakesHome, TellsFlows, TellsNothing}
+use Rattle.rina_dif.specs.WriteOffs.{MayByClock, MayByIn, MayFillOff}
+use Rattle.rina_dif.proofs.FlowWalk.{flows_noted}
 use Rattle.rina_dif.specs.Connected.{channels_seen}
 use Rattle.rina_dif.specs.Holding.{LinksStand}
 use Rattle.rina_dif.specs.LinkSteps.{DoesLink}
@@ -115,11 +118,21 @@ rerouted_noted holds d d' (inr r) =
     let noted = process_noted holds d new r.place r.process after [] refl r.is_process (sym (append-nil r.process.ledger)) (λ off none. absurd none) (ports_same r.process.links r.process.links refl) in
     subst (IsNoted holds d) (sym r.is) (enrolled_noted holds d new r.nodes noted)
 
-pub ins_at_write : (d : Dif) (lines : List Direction) (below : Seen) (node n : ℕ) (r : Result InStep StepError) (d' : Dif) (below' : Seen) → Holds d lines below → TakesHome d lines below node n r d' below' → Writes (MayWriteOff (seen_of d) lines below NoPort) (seen_of d) (seen_of d')
+-- the messages about flows, as they are handled, write off what they may then
+told_noted : (d : Dif) (lines : List Direction) (below : Seen) (node n : ℕ) (r : Result InStep StepError) (d' : Dif) (below' : Seen) (s : TakesHome d lines below node n r d' below') (home_is : Option ℕ) → home node (config_of d.settings).members ≡ home_is
+    → AtHome home_is (λ i. TellsFlows d below i n s.answer s.handled s.between below' r d' s.lines') (TellsNothing s.answer s.handled s.between r d' s.lines') → IsNoted (MayByIn d lines below node) (seen_of s.handled) (seen_of d')
+told_noted d lines below node n r d' below' s (Some i) is told =
+    flows_noted (MayByIn d lines below node) s.handled s.between below' i told.messages told.stopped (record d' { failed = s.handled.failed }) s.lines' s.stood
+    (λ before mid between handles holds k off may. inr (record { n = n; result = r; d' = d'; below' = below'; takes = s; place = i; at_home = is; before = before; mid = mid; between = between; handles = handles; holds = holds; may = may })) told.handles
+told_noted d lines below node n r d' below' s None is none = same_noted _ (seen_of s.handled) (seen_of d') (ap seen_of none.1)
+
+pub ins_at_write : (d : Dif) (lines : List Direction) (below : Seen) (node n : ℕ) (r : Result InStep StepError) (d' : Dif) (below' : Seen) → Holds d lines below → TakesHome d lines below node n r d' below' → Writes (MayByIn d lines below node) (seen_of d) (seen_of d')
 ins_at_write d lines below node n r d' below' h s =
-    let holds : ℕ → Off → Type 0 = MayWriteOff (seen_of d) lines below NoPort in
-    let taken = ins_at_noted (seen_of d) lines below node n r (seen_of s.taken) s.lines' below' h.standing s.does in
-    writes holds (seen_of d) (seen_of d') (noted_on holds (seen_of d) (seen_of s.taken) (seen_of d') taken (rerouted_noted holds (seen_of s.taken) (seen_of d') s.rerouted))
+    let first : ℕ → Off → Type 0 = MayWriteOff (seen_of d) lines below NoPort in
+    let holds : ℕ → Off → Type 0 = MayByIn d lines below node in
+    let taken = ins_at_noted (seen_of d) lines below node n s.answer (seen_of s.taken) s.between below' h.standing s.does in
+    let handled = noted_as first holds (seen_of d) (seen_of s.handled) (λ i off may. inl may) (noted_on first (seen_of d) (seen_of s.taken) (seen_of s.handled) taken (rerouted_noted first (seen_of s.taken) (seen_of s.handled) s.rerouted)) in
+    writes holds (seen_of d) (seen_of d') (noted_on holds (seen_of d) (seen_of s.handled) (seen_of d') handled (told_noted d lines below node n r d' below' s (home node (config_of d.settings).members) refl s.told))
 
 -- ---- what comes with time
 
@@ -227,7 +240,8 @@ link_noted d lines first below node i place (step.Message link) new flows' below
 
 serves_noted : (d : Dif) (lines : List Direction) (first below : Seen) (node : ℕ) (done : ClockStep) (d' : Dif) (lines' : List Direction) (below' : Seen) → Holds d lines first → Holds d lines below → Serves d lines below node done d' lines' below' → IsNoted (MayByClock d lines first node) (seen_of d) (seen_of d')
 serves_noted d lines first below node done d' lines' below' h now (inl flow) = flow_noted d lines first node done (seen_of d') lines' h flow.does
-serves_noted d lines first below node done d' lines' below' h now (inr link) =
+serves_noted d lines first below node done d' lines' below' h now (inr (inr ask)) = (let t = ask.0.times_out.turns_down.turned in turned_down_noted (MayByClock d lines first node) (seen_of d) _ _ (seen_of d') t)
+serves_noted d lines first below node done d' lines' below' h now (inr (inl link)) =
     let x = link.0.does now.connected in
     link_noted d lines first below node link.0.i x.place done (seen_of d') d'.connections.flows below' now (ap seen_of link.0.only) x.does
 
@@ -278,18 +292,25 @@ clocks_write d lines below node r d' below' h s = writes _ (seen_of d) (seen_of 
 
 -- ---- a flow is freed
 
-restated : (d d' : DifSeen) (lines : List Direction) (below : Seen) (ends : List End) (held : List CepIds) → d' ≡ record d { ends = ends; ids = held } → IsNoted (MayWriteOff d lines below NoPort) d d'
-restated d d' lines below ends held is = subst (IsNoted (MayWriteOff d lines below NoPort) d) (sym is) (quiet_noted _ d (record d { ends = ends; ids = held }) refl refl (omega arith) (λ k ids at. at) refl)
+never_waits : (state : PortState) → freed_state state ≡ Pending → ⊥
+never_waits Pending e = cc
+never_waits Allocated e = cc
+never_waits (Refused why) e = cc
+never_waits (Failed fail) e = cc
+never_waits Closed e = cc
 
-frees_end : (state : PortState) (d : DifSeen) (lines : List Direction) (below : Seen) (at : ℕ) (end : End) (d' : DifSeen) → IsStanding d lines below → IsNumbered d below → FreesEnd state d lines at end d' → IsNoted (MayWriteOff d lines below NoPort) d d'
-frees_end Allocated d lines below at end d' st numbered s = ended_noted d lines below at Closed d' st numbered s
-frees_end Pending d lines below at end d' st numbered s = restated d d' lines below _ s.held s.new_is
-frees_end (Refused why) d lines below at end d' st numbered s = restated d d' lines below _ d.ids s
-frees_end (Failed fail) d lines below at end d' st numbered s = restated d d' lines below _ d.ids s
-frees_end Closed d lines below at end d' st numbered s = restated d d' lines below _ d.ids s
+restated : (d d' : DifSeen) (lines : List Direction) (below : Seen) (at : ℕ) (end : End) (held : List CepIds) → At d.ends at end → d' ≡ record d { ends = slice_set d.ends at (freed end); ids = held } → IsNoted (MayWriteOff d lines below NoPort) d d'
+restated d d' lines below at end held there is = subst (IsNoted (MayWriteOff d lines below NoPort) d) (sym is) (quiet_noted _ d (record d { ends = slice_set d.ends at (freed end); ids = held }) refl refl (omega arith) (known_set d.ends d.conns at end (freed end) there (λ waits. absurd (never_waits end.state waits))) refl)
+
+frees_end : (state : PortState) (d : DifSeen) (lines : List Direction) (below : Seen) (at : ℕ) (end : End) (d' : DifSeen) → IsStanding d lines below → IsNumbered d below → At d.ends at end → FreesEnd state d lines at end d' → IsNoted (MayWriteOff d lines below NoPort) d d'
+frees_end Allocated d lines below at end d' st numbered is s = ended_noted d lines below at Closed d' st numbered s
+frees_end Pending d lines below at end d' st numbered is s = restated d d' lines below at end s.held is s.new_is
+frees_end (Refused why) d lines below at end d' st numbered is s = restated d d' lines below at end d.ids is s
+frees_end (Failed fail) d lines below at end d' st numbered is s = restated d d' lines below at end d.ids is s
+frees_end Closed d lines below at end d' st numbered is s = restated d d' lines below at end d.ids is s
 
 frees_noted : (d : Dif) (lines : List Direction) (below : Seen) (at : Option ℕ) (r : Result (Unit {0}) FreeError) (d' : Dif) → Holds d lines below → FreesAt at d lines below r d' → IsNoted (MayWriteOff (seen_of d) lines below NoPort) (seen_of d) (seen_of d')
-frees_noted d lines below (Some at) (Ok done) d' h s = frees_end s.end.state (seen_of d) lines below at s.end (seen_of d') h.standing h.numbered s.frees
+frees_noted d lines below (Some at) (Ok done) d' h s = frees_end s.end.state (seen_of d) lines below at s.end (seen_of d') h.standing h.numbered s.is_end s.frees
 frees_noted d lines below None (Ok done) d' h s = absurd s
 frees_noted d lines below (Some at) (Err free.Memory) d' h s = same_noted _ (seen_of d) (seen_of d') s.same
 frees_noted d lines below None (Err free.Memory) d' h s = same_noted _ (seen_of d) (seen_of d') s.same

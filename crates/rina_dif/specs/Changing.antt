@@ -1,26 +1,20 @@
 -- What the events of a DIF make of the managements of its members: of their items, and of the objects that they show.
-use Rattle.std.specs.Prelude.{◌≡◌, ◌≢◌, ◌⊎◌, ℕ, List, [], length, map, slice_get, slice_set, if◌then◌else◌, Option, Some, None, Result, Ok, Err}
+use Rattle.std.specs.Prelude.{◌≡◌, ℕ, List, [], length, map, slice_get, slice_set, if◌then◌else◌, Option, Some, None, Result, Ok, Err}
 use Rattle.std.specs.List.{filter_map, zip}
 use Rattle.rina_base.specs.declared.memory.Memory.{Memory}
-use Rattle.rina_base.specs.declared.number.Num.{Num}
 use Rattle.rina_base.specs.declared.number.Port.{Port}
 use Rattle.rina_conn.specs.declared.conn.Conn.{Conn}
 use Rattle.rina_data.specs.declared.loss.Lost.{Lost}
 use Rattle.rina_data.specs.declared.settings.Member.{Member}
-use Rattle.rina_data.specs.declared.step.ClockStep.{ClockStep}
-use Rattle.rina_data.specs.declared.step.ClockStep.TheVariants as step
-use Rattle.rina_data.specs.declared.step.StepError.{StepError}
 use Rattle.rina_flows.specs.declared.flows.Flows.{Flows}
 use Rattle.rina_flows.specs.Stopping.{is_here}
 use Rattle.rina_ids.specs.Members.{DrawsAt}
 use Rattle.rina_iface.specs.declared.ask.Fixed.{Fixed}
 use Rattle.rina_iface.specs.declared.ends.End.{End}
 use Rattle.rina_iface.specs.declared.error.AllocateError.{AllocateError}
-use Rattle.rina_iface.specs.declared.state.PortState.{PortState}
-use Rattle.rina_iface.specs.declared.state.PortState.TheVariants.{Allocated}
 use Rattle.rina_iface.specs.Seen.{Seen}
 use Rattle.rina_member.specs.declared.management.Management.{Management}
-use Rattle.rina_member.specs.Managements.{LosesLink, MayHoldEntry, claimed, entered, with_agent, with_flow, with_sent, without_flow, without_flows}
+use Rattle.rina_member.specs.Managements.{LosesLink, MayHoldEntry, entered, with_flow, without_flow, without_flows}
 use Rattle.rina_dif.specs.declared.dif.Dif.{Dif}
 use Rattle.rina_dif.specs.Elsewhere.{home_of}
 use Rattle.rina_dif.specs.Unlinking.{FindsLostAt, FindsNoneLeft}
@@ -81,21 +75,6 @@ BindsManaged (Err e) d fixed new = MayHoldFar d fixed new
 abbrev pub EndsFlow : Dif → ℕ → ℕ → List Management → Type 0
 EndsFlow d i at new = (k : Conn) → slice_get d.flows.conns at ≡ Some k → new ≡ without_flow_at i k.sending.form.peer.scep d.managements
 
--- an allocated end is freed: the member at its node deletes its object; any other has none
-abbrev pub ManagesFree : PortState → Dif → ℕ → End → List Management → Type 0
-ManagesFree Allocated d at end new = (i : ℕ) × (home_of d end.port.node ≡ Some i) × EndsFlow d i at new
-ManagesFree state d at end new = new ≡ d.managements
-
--- what `free` does at the end of a place; where it is refused none changes
-abbrev pub FreesManaged : {E : Type 0} → Option ℕ → Result (Unit {0}) E → Dif → List Management → Type 0
-FreesManaged (Some at) (Ok done) d new = (end : End) × (slice_get d.flows.journal.ends at ≡ Some end) × ManagesFree end.state d at end new
-FreesManaged place result d new = new ≡ d.managements
-
--- a flow is given up, or none is
-abbrev pub ManagesGiveUp : Result (Option Num) Memory → Dif → ℕ → ℕ → List Management → Type 0
-ManagesGiveUp (Ok (Some num)) d i at new = EndsFlow d i at new
-ManagesGiveUp result d i at new = new ≡ d.managements
-
 -- A link is lost
 
 -- the CEP-id of an allocated end at a node
@@ -133,14 +112,3 @@ pub record LosesManaged (d : Dif) (below : Seen) (at node number : ℕ) (new : L
 abbrev pub ManagesLoss : Result (Unit {0}) Memory → Dif → Seen → ℕ → ℕ → ℕ → List Management → Type 0
 ManagesLoss (Ok done) d below at node number new = LosesManaged d below at node number new
 ManagesLoss (Err e) d below at node number new = new ≡ d.managements
-
--- A clock step
-
--- where a link is lost, the management of the member loses it; where one is new, it gets it; where a flow is given up, the member deletes its object; a
--- management connection, which is told with the CEP-id 0, has none; where a message goes over a link, it waits there no more; else none changes
-abbrev pub ManagesStep : Result ClockStep StepError → Option ℕ → Dif → Seen → ℕ → List Management → Type 0
-ManagesStep (Ok (step.LinkLost number)) (Some at) d below node new = LosesManaged d below at node number new
-ManagesStep (Ok (step.LinkNew number)) (Some at) d below node new = new ≡ changed_at at (λ m. with_agent m (claimed m.agent number)) d.managements
-ManagesStep (Ok (step.GaveUp num)) (Some at) d below node new = ((num.cep ≢ 0) × (new ≡ without_flow_at at num.cep d.managements)) ⊎ ((num.cep ≡ 0) × (new ≡ d.managements))
-ManagesStep (Ok (step.Message number)) (Some at) d below node new = new ≡ changed_at at (λ m. with_sent m number) d.managements
-ManagesStep result home d below node new = new ≡ d.managements

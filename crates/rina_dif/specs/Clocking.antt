@@ -1,6 +1,7 @@
 -- The clock steps of a DIF.
-use Rattle.std.specs.Prelude.{OnErr, ◌≡◌, ◌≢◌, ℕ, ◌+◌, ◌*◌, ◌<◌, ◌≤◌, ◌⊎◌, nat_le, true, if◌then◌else◌, List, length, slice_get, Option, Some, None, option_map, Result, Ok, Err}
+use Rattle.std.specs.Prelude.{OnErr, ◌≡◌, ◌≢◌, ℕ, ◌+◌, ◌*◌, ◌<◌, ◌≤◌, ◌⊎◌, nat_le, Bool, true, false, if◌then◌else◌, List, length, slice_get, Option, Some, None, option_map, Result, Ok, Err}
 use Rattle.rina_base.specs.declared.cause.Cause.{Cause}
+use Rattle.rina_base.specs.declared.number.Port.{Port}
 use Rattle.rina_conn.specs.declared.conn.Conn.{Conn}
 use Rattle.rina_cube.specs.declared.Cube.{Cube}
 use Rattle.rina_cube.specs.declared.Kind.TheVariants.{Reliable}
@@ -33,7 +34,7 @@ use Rattle.rina_flows.specs.declared.flows.Flows.{Flows}
 use Rattle.rina_flows.specs.Calls.{Tells}
 use Rattle.rina_flows.specs.Tied.{conns_of}
 use Rattle.rina_flows.specs.Timely.{IsDue}
-use Rattle.rina_dif.specs.Changing.{ManagesStep}
+use Rattle.rina_dif.specs.FlowEnds.{ManagesStep}
 use Rattle.rina_dif.specs.Claiming.{MayHaveClaimed, NoLinkComes, StepsNew}
 use Rattle.rina_dif.specs.declared.clock_steps.Next.{Next}
 use Rattle.rina_dif.specs.declared.clock_steps.Turn.{Turn}
@@ -41,12 +42,13 @@ use Rattle.rina_dif.specs.declared.dif.Dif.{Dif}
 use Rattle.rina_dif.specs.Elsewhere.{home_of}
 use Rattle.rina_dif.specs.declared.links_due.NextLink.{NextLink}
 use Rattle.rina_dif.specs.Holding.{Holds, LinksStand}
-use Rattle.rina_dif.specs.LinkDue.{IsLinkTurn, NoLinkUpTo}
+use Rattle.rina_dif.specs.LinkDue.{IsLinkTurn, NoLinkDue, NoLinkUpTo}
 use Rattle.rina_dif.specs.LinkSteps.{DoesLink}
 use Rattle.rina_dif.specs.MessageSteps.{IfIdle, NoMessageAt, SendsMessage}
 use Rattle.rina_dif.specs.Shown.{seen_of}
 use Rattle.rina_dif.specs.Steps.{AtHome}
 use Rattle.rina_dif.specs.Unlinking.{HasFailed, LacksCounts, LosesWith}
+use Rattle.rina_dif.specs.WaitingAsks.{IsFirstLate, NoneLate, TimesOut}
 
 -- What is due at a node
 
@@ -204,17 +206,61 @@ abbrev pub FindsLinkFirst : Dif → List Direction → List Direction → ℕ �
 FindsLinkFirst d lines links i node (Some next) = IsLinkFirst next.item d lines links i node next.turn.place next.turn.number
 FindsLinkFirst d lines links i node None = (flow : Option Next) → FindsNext d lines node flow → NoLinkFirst (option_map (λ (n : Next). n.item) flow) d links i
 
--- a flow is served, or nothing is due, and no link goes first; nothing changes below
+-- Asks that are late
+
+-- at the flows of a node held pieces are of no state that has ended, and no number is given up
+abbrev pub NoFlowEnds : Dif → List Direction → ℕ → Type 0
+NoFlowEnds d lines node = NoneDue Gone d lines node × NoneDue GiveUp d lines node
+
+-- so at the links of the IPC process of place i
+abbrev pub NoLinkEnds : Dif → List Direction → ℕ → Type 0
+NoLinkEnds d links i = NoLinkDue Gone d links i × NoLinkDue GiveUp d links i
+
+-- at both
+abbrev pub NothingEnds : Dif → List Direction → List Direction → ℕ → ℕ → Type 0
+NothingEnds d lines links i node = NoFlowEnds d lines node × NoLinkEnds d links i
+
+-- whether it is otherwise is told
+abbrev pub TellsEnding : Type 0 → Bool → Type 0
+TellsEnding none true = none → ⊥
+TellsEnding none false = none
+
+-- the ask that goes before all else that is due there: the first that is late, where nothing of that kind comes before it
+abbrev pub FindsAskFirst : Dif → List Direction → List Direction → ℕ → ℕ → Option ℕ → Type 0
+FindsAskFirst d lines links i node (Some which) = IsFirstLate d node which × NothingEnds d lines links i node
+FindsAskFirst d lines links i node None = NoneLate d node ⊎ (NothingEnds d lines links i node → ⊥)
+
+-- no ask goes before an item: it is one of those two, or no ask is late. Where no item is told, none is
+abbrev pub NoAskFirst : Option Item → Dif → ℕ → Type 0
+NoAskFirst (Some Gone) d node = Unit {0}
+NoAskFirst (Some GiveUp) d node = Unit {0}
+NoAskFirst other d node = NoneLate d node
+
+-- the first ask that is late at a node is given up, since it has waited for its whole time; the step tells the port. Nothing changes below
+pub record ServesAsk (d : Dif) (lines : List Direction) (below : Seen) (node : ℕ) (done : ClockStep) (d' : Dif) : Type 0 where
+  pub port : Port
+  pub told : done ≡ step.Timeout port
+  pub i : ℕ
+  pub at_home : home node (config_of d.settings).members ≡ Some i
+  pub first : (links : LinksStand d below) → NothingEnds d lines links.lines i node
+  pub times_out : TimesOut d node port d'
+  pub only : d' ≡ record d { flows = d'.flows; ids = d'.ids; asks = d'.asks; failed = d'.failed }
+
+-- What is served
+
+-- a flow is served, or nothing is due, and no link and no ask goes first; nothing changes below
 pub record ServesFlow (d : Dif) (lines : List Direction) (below : Seen) (node : ℕ) (done : ClockStep) (d' : Dif) (lines' : List Direction) (below' : Seen) : Type 0 where
   pub does : StepsFlow d lines node done (seen_of d') lines'
   pub same : d'.connections ≡ d.connections
   pub same_below : below' ≡ below
   pub first : (i : ℕ) → home node (config_of d.settings).members ≡ Some i → (links : LinksStand d below) → NoLinkFirst (item_of done) d links.lines i
+  pub no_ask : NoAskFirst (item_of done) d node
 
 -- the management connection of the link that goes first does what is due there
 pub record IsLinkStep (d : Dif) (lines links : List Direction) (below : Seen) (i node : ℕ) (done : ClockStep) (new : DifSeen) (flows' : Flows) (below' : Seen) : Type 0 where
   pub item : Item
   pub told : item_of done ≡ Some item
+  pub no_ask : NoAskFirst (Some item) d node
   pub place : ℕ
   pub number : ℕ
   pub first : IsLinkFirst item d lines links i node place number
@@ -227,19 +273,20 @@ pub record ServesLink (d : Dif) (lines : List Direction) (below : Seen) (node : 
   pub only : d' ≡ record d { processes = d'.processes; connections = record d.connections { flows = d'.connections.flows }; failed = d'.failed }
   pub does : (links : LinksStand d below) → IsLinkStep d lines links.lines below i node done (seen_of d') d'.connections.flows below'
 
--- the one or the other
+-- the one or the other, or an ask is given up
 abbrev pub Serves : Dif → List Direction → Seen → ℕ → ClockStep → Dif → List Direction → Seen → Type 0
-Serves d lines below node done d' lines' below' = ServesFlow d lines below node done d' lines' below' ⊎ (ServesLink d lines below node done d' below' × (lines' ≡ lines))
+Serves d lines below node done d' lines' below' = ServesFlow d lines below node done d' lines' below' ⊎ ((ServesLink d lines below node done d' below' × (lines' ≡ lines)) ⊎ (ServesAsk d lines below node done d' × (lines' ≡ lines) × (below' ≡ below)))
 
 abbrev pub ServesHere : Dif → List Direction → Seen → ℕ → Result ClockStep StepError → Dif → Seen → Type 0
 ServesHere d lines below node result d' below' = DoneHere (λ done z lines'. Serves d lines below node done z lines' below') d lines result d' below' × OnErr result (below' ≡ below)
 
 -- What is done last
 
--- nothing is due at the flows of a node, nor at the links of its IPC process
+-- nothing is due at the flows of a node, nor at the links of its IPC process, and no ask is late there
 pub record IsStill (d : Dif) (lines : List Direction) (below : Seen) (node : ℕ) : Type 0 where
   pub flows : IsIdle d lines node
   pub links : (i : ℕ) → home node (config_of d.settings).members ≡ Some i → (links : LinksStand d below) → NoLinkUpTo Again d links.lines i
+  pub asks : NoneLate d node
 
 -- so a message goes, of which the step tells the link
 pub record ServesMessage (d : Dif) (lines : List Direction) (below : Seen) (node : ℕ) (done : ClockStep) (d' : Dif) : Type 0 where
@@ -248,7 +295,7 @@ pub record ServesMessage (d : Dif) (lines : List Direction) (below : Seen) (node
   pub still : IsStill d lines below node
   pub sends : SendsMessage d below node number d'
 
--- a link or a flow is served; where nothing is due at them, a message goes, and nothing changes below, or none is due either
+-- a link or a flow is served, or an ask is given up; where nothing of that is due, a message goes, and nothing changes below, or none is due either
 abbrev pub ServesAny : Dif → List Direction → Seen → ℕ → ClockStep → Dif → List Direction → Seen → Type 0
 ServesAny d lines below node done d' lines' below' = (Serves d lines below node done d' lines' below' × IfIdle done (NoMessageAt d below node)) ⊎ (ServesMessage d lines below node done d' × (lines' ≡ lines) × (below' ≡ below))
 
@@ -257,7 +304,7 @@ ServesAnyHere d lines below node result d' below' = DoneHere (λ done z lines'. 
 
 -- What is done first
 
--- no link comes, the DIF holds over the rank below as it is then, and a link or a flow is served, or a message goes, or nothing is due
+-- no link comes, the DIF holds over the rank below as it is then, and a link or a flow is served, an ask is given up, a message goes, or nothing is due
 pub record ServesThen (d : Dif) (lines : List Direction) (below : Seen) (node : ℕ) (done : ClockStep) (d' : Dif) (lines' : List Direction) (below' : Seen) : Type 0 where
   pub mid : Seen
   pub none : NoLinkComes d below node mid

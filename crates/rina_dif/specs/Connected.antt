@@ -1,5 +1,5 @@
 -- When the management connections of a DIF's links stand.
-use Rattle.std.specs.Prelude.{◌≡◌, ◌≤◌, ℕ, List, slice_get, Some}
+use Rattle.std.specs.Prelude.{◌≡◌, ◌≤◌, ℕ, List, map, slice_get, Some}
 use Rattle.rina_base.specs.declared.number.Port.{Port}
 use Rattle.rina_channel.specs.declared.channel.Attachment.{Attachment}
 use Rattle.rina_channel.specs.declared.channel.Channel.{Channel}
@@ -16,15 +16,18 @@ use Rattle.rina_flows.specs.Calls.{AreTied}
 use Rattle.rina_iface.specs.declared.ends.End.{End}
 use Rattle.rina_iface.specs.Seen.{Seen}
 use Rattle.rina_law.specs.Direction.{Direction}
+use Rattle.rina_plan.specs.Kept.{AreApart}
 use Rattle.rina_dif.specs.declared.connections.Connections.{Connections}
 
 -- as the laws of management connections see them
 abbrev pub channels_seen : Config → ℕ → Connections → ChannelsSeen
 channels_seen g now c = seen_of g c.manage now c.channels c.flows
 
--- their cube is reliable and has id 0, no cube of flows has that id, and no member has address 0, which their PDUs bear
+-- their cube is reliable and has id 0, no cube of flows has that id, no two of these have one id, and no member has address 0, which their
+-- PDUs bear
 pub record CanManage (g : Config) (manage : Cube) : Type 0 where
   pub managed : IsManaged g manage
+  pub apart : AreApart (map (λ (c : Cube). c.id) g.cubes)
   pub zero : HasNoZero g
 
 -- the link of this number of the IPC process of place i, with this port, has its channel, which is attached to it

@@ -1,5 +1,5 @@
 -- What a call at a DIF leaves as it was.
-use Rattle.std.specs.Prelude.{◌≡◌, ℕ, List, map, slice_get, Option, Some, None, Result, Ok, Err, if◌then◌else◌}
+use Rattle.std.specs.Prelude.{◌≡◌, ◌≤◌, ◌⊎◌, ℕ, List, length, map, slice_get, Option, Some, None, Result, Ok, Err, if◌then◌else◌}
 use Rattle.rina_base.specs.declared.number.Key.{Key}
 use Rattle.rina_base.specs.declared.number.Port.{Port}
 use Rattle.rina_iface.specs.declared.ends.End.{End}
@@ -12,6 +12,7 @@ use Rattle.rina_data.specs.declared.step.ClockStep.TheVariants as clock
 use Rattle.rina_data.specs.declared.step.InStep.{InStep}
 use Rattle.rina_data.specs.declared.step.InStep.TheVariants.{Took}
 use Rattle.rina_data.specs.declared.step.StepError.{StepError}
+use Rattle.rina_data.specs.declared.step.StepError.TheVariants.{Memory}
 use Rattle.rina_data.specs.Configs.{config_of}
 use Rattle.rina_data.specs.Deciding.{queue_settings}
 use Rattle.rina_dif_law.specs.Ids.{Ids}
@@ -70,16 +71,28 @@ pub record IsOfCep (d : Dif) (process : Option ℕ) (cep at : ℕ) : Type 0 wher
   pub ids_are : slice_get (conns_of d.flows.conns) at ≡ Some ids
   pub cep_is : cep ≡ ids.scep
 
--- by its answer an in step may change the end to which the PDU came
+-- and it is the end of this port
+pub record IsOfPort (d : Dif) (process : Option ℕ) (port : Port) (at : ℕ) : Type 0 where
+  pub end_of : IsEndOf d process at
+  pub port_is : port ≡ end_of.end.port
+
+-- an end of the IPC process of this place, or one that is new
+abbrev pub IsEndHere : Dif → Option ℕ → ℕ → Type 0
+IsEndHere d process at = IsEndOf d process at ⊎ (length d.flows.journal.ends ≤ at)
+
+-- by its answer an in step may change ends of the IPC process where the PDU came, and make some there: the one to which the PDU came, or those of
+-- which messages came. Where memory runs out behind the PDU, some of the messages were handled
 abbrev pub MayTake : Result InStep StepError → Dif → Option ℕ → ℕ → Type 0
-MayTake (Ok (Took key end)) d process at = IsTaker d process key at
+MayTake (Ok (Took key end)) d process at = IsEndHere d process at
+MayTake (Err Memory) d process at = IsEndHere d process at
 MayTake answer d process at = ⊥
 
--- a clock step the end whose connection it names, or, where a link is lost, each end of the IPC process
+-- a clock step the end whose connection or port it names, or, where a link is lost, each end of the IPC process
 abbrev pub MayClock : Result ClockStep StepError → Dif → Option ℕ → ℕ → Type 0
 MayClock (Ok (clock.LinkLost link)) d process at = IsEndOf d process at
 MayClock (Ok (clock.Gone cep)) d process at = IsOfCep d process cep at
 MayClock (Ok (clock.GaveUp num)) d process at = IsOfCep d process num.cep at
 MayClock (Ok (clock.Ack cep)) d process at = IsOfCep d process cep at
 MayClock (Ok (clock.Again num)) d process at = IsOfCep d process num.cep at
+MayClock (Ok (clock.Timeout port)) d process at = IsOfPort d process port at
 MayClock answer d process at = ⊥

@@ -1,6 +1,6 @@
 -- What a PDU that came on a link brings to the management of a member: the SDUs that it makes whole are passed and handled in the
 -- same step, and the next hops follow what the member then holds.
-use Rattle.std.specs.Prelude.{◌≡◌, ◌⊎◌, ℕ, suc, zero, ◌-◌, ◌^◌, ◌++◌, min, List, [], ◌∷◌, drop, length, slice_get, slice_set, Option, Some, None, Result, Ok, Err}
+use Rattle.std.specs.Prelude.{◌≡◌, ◌⊎◌, ℕ, suc, zero, ◌-◌, ◌^◌, ◌++◌, min, List, [], ◌∷◌, drop, length, slice_get, slice_set, Option, Some, None, IfSome, Result, Ok, Err, option_map}
 use Rattle.rina_agent.specs.declared.state.AgentError.{AgentError}
 use Rattle.rina_agent.specs.declared.state.AgentError.TheVariants.{CountSpent, Memory}
 use Rattle.rina_base.specs.declared.pdu.Pdu.{Pdu}
@@ -23,6 +23,7 @@ use Rattle.rina_flows.specs.Calls.{AreTied, SameIds}
 use Rattle.rina_flows.specs.Rows.{PassedAt}
 use Rattle.rina_flows.specs.Tied.{conns_of}
 use Rattle.rina_dif.specs.declared.dif.Dif.{Dif}
+use Rattle.rina_dif.specs.declared.messages_in.Change.{Change}
 use Rattle.rina_dif.specs.declared.messages_in.Handled.{Handled}
 use Rattle.rina_dif.specs.Flooding.{texts_of}
 use Rattle.rina_dif.specs.Holding.{Holds, LinksStand}
@@ -58,16 +59,16 @@ abbrev pub LacksInTurn : ℕ → ℕ → ℕ → ℕ → List (List ℕ) → Man
 LacksInTurn now number need left [] m = ⊥
 LacksInTurn now number need left (sdu ∷ sdus) m = HandlesSdu now number sdu m (Err (CountSpent need left)) ⊎ ((mid : Management) × HandlesOne now number sdu m mid × LacksInTurn now number need left sdus mid)
 
--- what handling one of them answers
-abbrev pub AnswersOne : ℕ → ℕ → List ℕ → Management → Result Management AgentError → Type 0
-AnswersOne now number sdu m (Ok m') = HandlesOne now number sdu m m'
-AnswersOne now number sdu m (Err e) = HandlesSdu now number sdu m (Err e)
+-- what handling one of them answers, of a member that was `first` at first: another management, or none where it is that still
+abbrev pub AnswersOne : ℕ → ℕ → List ℕ → Management → Management → Result (Option Management) AgentError → Type 0
+AnswersOne now number sdu first m (Ok told) = HandlesOne now number sdu m (or_same first told)
+AnswersOne now number sdu first m (Err e) = HandlesSdu now number sdu m (Err e)
 
 -- and what handling all of them does; nothing is told where memory ran out
-abbrev pub AnswersInTurn : ℕ → ℕ → List (List ℕ) → Management → Result Management AgentError → Type 0
-AnswersInTurn now number sdus m (Ok m') = HandlesInTurn now number sdus m m'
-AnswersInTurn now number sdus m (Err (CountSpent need left)) = LacksInTurn now number need left sdus m
-AnswersInTurn now number sdus m (Err Memory) = Unit {0}
+abbrev pub AnswersInTurn : ℕ → ℕ → List (List ℕ) → Management → Management → Result (Option Management) AgentError → Type 0
+AnswersInTurn now number sdus first m (Ok told) = HandlesInTurn now number sdus m (or_same first told)
+AnswersInTurn now number sdus first m (Err (CountSpent need left)) = LacksInTurn now number need left sdus m
+AnswersInTurn now number sdus first m (Err Memory) = Unit {0}
 
 -- Before a piece is taken
 
@@ -77,10 +78,11 @@ pub record IsToldAhead (d : Dif) (place : ℕ) (its : Pdu) (bodies : List (List 
   pub count : (end : End) → At d.connections.flows.journal.ends place end → unpassed ≡ min (length end.got - end.taken) (2 ^ 32 - 1)
   pub ahead : (conn : Conn) → slice_get d.connections.flows.conns place ≡ Some conn → IsAhead d.clock its unpassed conn.rx bodies
 
--- the member of place i handled the SDUs that came to the end of its link, and then those that a piece would make whole there
-abbrev pub HandlesAhead : Dif → ℕ → ℕ → ℕ → Pdu → Management → Type 0
-HandlesAhead d i place number its after = (m : Management) (end : End) → slice_get d.managements i ≡ Some m → At d.connections.flows.journal.ends place end →
-    (bodies : List (List ℕ)) × IsToldAhead d place its bodies × HandlesInTurn d.clock number (unpassed_sdus end ++ bodies) m after
+-- the member of place i handled the SDUs that came to the end of its link, and then those that a piece would make whole there; it is then
+-- managed so, or as it was where nothing is told
+abbrev pub HandlesAhead : Dif → ℕ → ℕ → ℕ → Pdu → Option Management → Type 0
+HandlesAhead d i place number its told = (m : Management) (end : End) → slice_get d.managements i ≡ Some m → At d.connections.flows.journal.ends place end →
+    (bodies : List (List ℕ)) × IsToldAhead d place its bodies × HandlesInTurn d.clock number (unpassed_sdus end ++ bodies) m (or_same m told)
 
 -- for one of them the member has too few version counts or invoke ids left
 abbrev pub LacksAhead : Dif → ℕ → ℕ → ℕ → Pdu → ℕ → ℕ → Type 0
@@ -88,8 +90,8 @@ LacksAhead d i place number its need left = (m : Management) (end : End) → sli
     (bodies : List (List ℕ)) × IsToldAhead d place its bodies × LacksInTurn d.clock number need left (unpassed_sdus end ++ bodies) m
 
 -- what that answers
-abbrev pub AnswersAhead : Dif → ℕ → ℕ → ℕ → Pdu → Result Management AgentError → Type 0
-AnswersAhead d i place number its (Ok after) = HandlesAhead d i place number its after
+abbrev pub AnswersAhead : Dif → ℕ → ℕ → ℕ → Pdu → Result (Option Management) AgentError → Type 0
+AnswersAhead d i place number its (Ok told) = HandlesAhead d i place number its told
 AnswersAhead d i place number its (Err (CountSpent need left)) = LacksAhead d i place number its need left
 AnswersAhead d i place number its (Err Memory) = Unit {0}
 
@@ -97,6 +99,15 @@ AnswersAhead d i place number its (Err Memory) = Unit {0}
 abbrev pub TellsNodes : Dif → ℕ → Management → Option (List ℕ) → Type 0
 TellsNodes d i after (Some nodes) = nodes ≡ nodes_with d i after
 TellsNodes d i after None = (m : Management) → slice_get d.managements i ≡ Some m → is_in after.agent.state ≡ is_in m.agent.state
+
+-- what changes at the member of place i: its next hops are over the items that it then holds, and this is who is enrolled then
+pub record IsChange (d : Dif) (i : ℕ) (c : Change) : Type 0 where
+  pub routes : AreRoutesOf c.management.agent d.settings.members c.routes
+  pub enrolled : TellsNodes d i c.management c.enrolled
+
+-- the management that a change tells
+abbrev pub told_of : Option Change → Option Management
+told_of change = option_map (λ (c : Change). c.management) change
 
 -- The connection
 
@@ -117,13 +128,12 @@ pub record PassesAll (d : Dif) (links : List Direction) (place : ℕ) (flows' : 
 
 -- Both
 
--- what a member is once it handled all that came to the end of its link of this number and is not passed, its next hops over the
--- items that it then holds, and who is enrolled then
+-- what changes at a member that handled all that came to the end of its link of this number and is not passed; where nothing is told, it is as
+-- it was
 pub record IsHandled (d : Dif) (i number : ℕ) (h : Handled) : Type 0 where
   pub here : IsLinkEnd d i h.place number
-  pub handles : (m : Management) (end : End) → slice_get d.managements i ≡ Some m → At d.connections.flows.journal.ends h.place end → HandlesInTurn d.clock number (unpassed_sdus end) m h.management
-  pub routes : AreRoutesOf h.management.agent d.settings.members h.routes
-  pub enrolled : TellsNodes d i h.management h.enrolled
+  pub handles : (m : Management) (end : End) → slice_get d.managements i ≡ Some m → At d.connections.flows.journal.ends h.place end → HandlesInTurn d.clock number (unpassed_sdus end) m (or_same m (told_of h.change))
+  pub changes : IfSome h.change (IsChange d i)
 
 -- the end at a place of the management connection of the link of this number, at the IPC process of place i, passes all SDUs that
 -- came to it; the member handles them in turn; the next hops of the IPC process are over the items that the member then holds; and the

@@ -1,4 +1,6 @@
 pub mod Absence
+pub mod Allocating
+pub mod AnswersIn
 pub mod Asking
 pub mod Binding
 pub mod Building
@@ -7,11 +9,16 @@ pub mod Claiming
 pub mod Clocking
 pub mod Closing
 pub mod Connected
+pub mod DeletesIn
 pub mod Elsewhere
 pub mod Enrolling
 pub mod Facade
+pub mod FarMaking
+pub mod FlowAnswers
+pub mod FlowEnds
 pub mod Flooding
 pub mod FloodingLaws
+pub mod FlowMessages
 pub mod Freeing
 pub mod Handling
 pub mod Holding
@@ -28,7 +35,9 @@ pub mod Messaging
 pub mod NewLinks
 pub mod Objects
 pub mod Planned
+pub mod Posting
 pub mod Registering
+pub mod Requesting
 pub mod Resting
 pub mod Routing
 pub mod Sending
@@ -40,3 +49,5 @@ pub mod Timely
 pub mod Unlinking
 pub mod Whole
 pub mod WriteOffs
+pub mod Waiting
+pub mod WaitingAsks

@@ -16,7 +16,7 @@ use Rattle.rina_data.specs.declared.settings.Member.{Member}
 use Rattle.rina_member.specs.Knowing.{AreRoutesOf, IsLaidOut, IsPlanned, Knows}
 use Rattle.rina_member.specs.declared.management.Management.{Management}
 use Rattle.rina_member.specs.Objects.{first_objects}
-use Rattle.rina_member.specs.Short.{TellsNeighbours}
+use Rattle.rina_member.specs.Short.{TellsShort}
 use Rattle.rina_member.specs.Start.{items_held, started}
 use Rattle.rina_dif.specs.declared.dif.Dif.{Dif}
 
@@ -78,13 +78,13 @@ AreBounded links = (k : ℕ) (link : Link) → slice_get links k ≡ Some link �
 
 -- at a tick, the management of a member knows the live links of its IPC process. In a static DIF the first of them are those of the plan, and
 -- behind them stand those that enrolments made. The next hops of the IPC process are over the items that the management holds: the first links of
--- least walks over the edges that the link states of both ends claim. And the member tells short messages to its neighbours alone
+-- least walks over the edges that the link states of both ends claim. And the member tells short messages alone
 pub record IsManaged (is_static : Bool) (members : List Member) (plans : List LinkPlan) (now : ℕ) (m : Member) (p : IpcProcess) (g : Management) : Type 0 where
   pub knows : Knows now m p.links g.agent
   pub planned : is_static ≡ true → IsPlanned members plans m p.links g.agent
   pub bounded : AreBounded p.links
   pub routes : AreRoutesOf g.agent members p.routes
-  pub tells : TellsNeighbours g.agent
+  pub tells : TellsShort g.agent
 
 -- the members and links are as a plan may lay them out, each member has a management at its place, and each IPC process
 -- is managed so

@@ -8,6 +8,7 @@ use Rattle.rina_iface.specs.Seen.{Seen, unpassed}
 use Rattle.rina_member.specs.declared.management.Management.{Management}
 use Rattle.rina_queue.specs.declared.queue.Queue.{Queue}
 use Rattle.rina_dif.specs.declared.dif.Dif.{Dif}
+use Rattle.rina_dif.specs.WaitingAsks.{NoneLateUntil}
 
 -- no PDU waits in any of the queues
 abbrev pub AreEmpty : List Queue → Type 0
@@ -32,10 +33,11 @@ abbrev pub NoneWaits : List Management → Type 0
 NoneWaits managements = (k : ℕ) (g : Management) → slice_get managements k ≡ Some g → g.agent.agenda ≡ []
 
 -- the DIF can go on, its IPC processes rest over the rank below, its members have nothing to tell, and before this tick nothing is due at
--- its flows or at the management connections of its links
+-- its flows or at the management connections of its links, and no ask is late
 pub record RestsUntil (until : ℕ) (d : Dif) (below : Seen) : Type 0 where
   pub alive : d.failed ≡ false
   pub processes : AreAtRest d.processes below
   pub messages : NoneWaits d.managements
   pub flows : NoneDueUntil until d.flows
   pub links : NoneDueUntil until d.connections.flows
+  pub asks : NoneLateUntil until d

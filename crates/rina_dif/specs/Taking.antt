@@ -1,6 +1,7 @@
 -- What comes to a DIF on its links.
-use Rattle.std.specs.Prelude.{◌≡◌, ℕ, ◌+◌, ◌-◌, ◌≤◌, ◌⊎◌, List, length, position, slice_get, slice_set, Option, Some, None, Result, Ok, Err}
+use Rattle.std.specs.Prelude.{◌≡◌, ℕ, ◌+◌, ◌-◌, ◌≤◌, ◌⊎◌, List, [], length, position, slice_get, slice_set, Option, Some, None, IfSome, Result, Ok, Err}
 use Rattle.rina_account.specs.declared.ledger.Off.{Off}
+use Rattle.rina_alloc.specs.declared.message.FlowMessage.{FlowMessage}
 use Rattle.rina_agent.specs.declared.state.AgentError.{AgentError}
 use Rattle.rina_agent.specs.declared.state.AgentError.TheVariants as agent
 use Rattle.rina_base.specs.declared.cause.Cause.{Cause}
@@ -42,11 +43,11 @@ use Rattle.rina_channel.specs.Ledgers.{unnamed_from}
 use Rattle.rina_channel.specs.Names.{link_config, named}
 use Rattle.rina_flows.specs.Calls.{AreTied, TakesHere}
 use Rattle.rina_flows.specs.Delivering.{ArrivesIn}
-use Rattle.rina_member.specs.Knowing.{AreRoutesOf}
 use Rattle.rina_dif.specs.declared.dif.Dif.{Dif}
 use Rattle.rina_dif.specs.declared.messages_in.Handled.{Handled}
 use Rattle.rina_dif.specs.Flooding.{StayFlooding}
-use Rattle.rina_dif.specs.Handling.{HandlesAhead, HandlesAll, LacksAhead, TellsNodes}
+use Rattle.rina_dif.specs.FlowMessages.{BringsMessages, HandlesFlows}
+use Rattle.rina_dif.specs.Handling.{HandlesAhead, HandlesAll, IsChange, LacksAhead, told_of}
 use Rattle.rina_dif.specs.Holding.{AreHoused, Holds, LinksStand}
 use Rattle.rina_dif.specs.Managing.{AreEnrolled, AreManaged}
 use Rattle.rina_dif.specs.Routing.{MayReroute}
@@ -201,13 +202,12 @@ TakesFor d at since port hop result d' = (lines : List Direction) (below : Seen)
 
 -- What it brings to the member
 
--- what the member of place i is once it handled the messages that a piece of its link of this number makes whole. The piece is not taken
+-- what changes at the member of place i that handled the messages which a piece of its link of this number makes whole. The piece is not taken
 pub record BringsAhead (d : Dif) (i number since : ℕ) (port : Port) (hop : Hop) (h : Handled) : Type 0 where
   pub its : Pdu
   pub takes : TakesOwnPiece d since port hop h.place its
-  pub handles : HandlesAhead d i h.place number its h.management
-  pub routes : AreRoutesOf h.management.agent d.settings.members h.routes
-  pub enrolled : TellsNodes d i h.management h.enrolled
+  pub handles : HandlesAhead d i h.place number its (told_of h.change)
+  pub changes : IfSome h.change (IsChange d i)
 
 -- or the PDU is no piece that an end of the link takes
 abbrev pub MayBring : Dif → ℕ → ℕ → ℕ → Port → Hop → Option Handled → Type 0
@@ -226,6 +226,10 @@ abbrev pub BringsAs : Dif → ℕ → ℕ → ℕ → Port → Hop → Result (O
 BringsAs d i number since port hop (Ok found) = MayBring d i number since port hop found
 BringsAs d i number since port hop (Err (agent.CountSpent need left)) = LacksFor d i number since port hop need left
 BringsAs d i number since port hop (Err agent.Memory) = Unit {0}
+
+-- the messages about flows among those SDUs, which the member handles last; any other PDU brings none
+abbrev pub BringsFlows : Dif → ℕ → Port → Hop → List FlowMessage → Type 0
+BringsFlows d since port hop ms = ((place : ℕ) × (its : Pdu) × TakesOwnPiece d since port hop place its × BringsMessages d place its ms) ⊎ (NoOwnPiece d since port hop × (ms ≡ []))
 
 -- Once it was taken, the end passes what came to it, and the member of place i handles it; nothing more happens where no end took a piece
 abbrev pub HandlesPiece : Dif → ℕ → ℕ → ℕ → Port → Hop → Dif → Seen → Dif → Type 0
@@ -286,29 +290,75 @@ Handles d below i n (Ok (steps.Took key end)) taken below' d' = HandlesOldest d 
 Handles d below i n (Err (CountSpent need left)) taken below' d' = LacksOldest d below i n need left × (d' ≡ taken)
 Handles d below i n result taken below' d' = d' ≡ taken
 
--- what `in_step` does at a link of the IPC process of place i: it takes an SDU, which makes the DIF `taken` of it and leaves what the members hold,
--- and handles what this made whole. For the flows only the next hops may be others then
+-- the messages about flows that the piece in the oldest SDU of link n makes whole
+pub record BringsOldest (d : Dif) (below : Seen) (i n : ℕ) (ms : List FlowMessage) : Type 0 where
+  pub process : IpcProcess
+  pub is_process : slice_get d.processes i ≡ Some process
+  pub link : Link
+  pub is_link : link_by n process.links ≡ Some link
+  pub since : ℕ
+  pub hop : Hop
+  pub is_oldest : IsOldest (config_of d.settings) below link.port since hop
+  pub brings : BringsFlows d since link.port hop ms
+
+-- where no SDU was taken there are none
+abbrev pub AreBrought : Dif → Seen → ℕ → ℕ → Result InStep StepError → List FlowMessage → Type 0
+AreBrought d below i n (Ok (steps.Took key end)) ms = BringsOldest d below i n ms
+AreBrought d below i n answer ms = ms ≡ []
+
+-- the step answers what the taking of the SDU answered; or memory ran out behind it, at one of the messages about flows
+abbrev pub EndsAs : Result (Unit {0}) NoMemory → Result InStep StepError → Result InStep StepError → Type 0
+EndsAs (Ok done) answer result = result ≡ answer
+EndsAs (Err e) (Ok (steps.Took key end)) result = result ≡ Err Memory
+EndsAs (Err e) answer result = ⊥
+
+-- the member of place i handles the messages about flows, one after the other, as all else was handled. Whether an allocation failed is
+-- noted behind it
+pub record TellsFlows (d : Dif) (below : Seen) (i n : ℕ) (answer : Result InStep StepError) (handled : Dif) (between : List Direction) (below' : Seen) (result : Result InStep StepError) (d' : Dif) (lines' : List Direction) : Type 0 where
+  pub messages : List FlowMessage
+  pub are : AreBrought d below i n answer messages
+  pub stopped : Result (Unit {0}) NoMemory
+  pub handles : HandlesFlows handled between below' i messages stopped (record d' { failed = handled.failed }) lines'
+  pub ends : EndsAs stopped answer result
+
+-- the step was at no member, and told nothing
+abbrev pub TellsNothing : Result InStep StepError → Dif → List Direction → Result InStep StepError → Dif → List Direction → Type 0
+TellsNothing answer handled between result d' lines' = (result ≡ answer) × (record d' { failed = handled.failed } ≡ handled) × (lines' ≡ between)
+
+-- what `in_step` does at a link of the IPC process of place i: it takes an SDU, which answers something, makes the DIF `taken` of it and leaves
+-- what the members hold; it handles the messages of neighbours that this made whole, for which of the flows only the next hops may be others
+-- then; and as the DIF holds so, it handles the messages about flows
 pub record TakesIn (d : Dif) (lines : List Direction) (below : Seen) (i n : ℕ) (result : Result InStep StepError) (d' : Dif) (below' : Seen) : Type 0 where
-  pub lines' : List Direction
+  pub answer : Result InStep StepError
+  pub between : List Direction
   pub taken : Dif
-  pub does : Ins (seen_of d) lines below i n result (seen_of taken) lines' below'
-  pub links : (links : LinksStand d below) → TakesLinks d links.lines below i n result taken
+  pub does : Ins (seen_of d) lines below i n answer (seen_of taken) between below'
+  pub links : (links : LinksStand d below) → TakesLinks d links.lines below i n answer taken
   pub managed : taken.managements ≡ d.managements
-  pub handles : Handles d below i n result taken below' d'
-  pub rerouted : MayReroute (seen_of taken) (seen_of d')
+  pub handled : Dif
+  pub handles : Handles d below i n answer taken below' handled
+  pub rerouted : MayReroute (seen_of taken) (seen_of handled)
+  pub stood : Holds handled between below'
+  pub lines' : List Direction
+  pub told : TellsFlows d below i n answer handled between below' result d' lines'
   pub holds : Holds d' lines' below'
 
 abbrev pub InsAt : DifSeen → List Direction → Seen → ℕ → ℕ → Result InStep StepError → DifSeen → List Direction → Seen → Type 0
 InsAt d lines below node n (Err Memory) d' lines' below' = (d' ≡ d) × (lines' ≡ lines) × (below' ≡ below)
-InsAt d lines below node n result d' lines' below' = AtHome (home node d.config.members) (λ i. Ins d lines below i n result d' lines' below') ((result ≡ Err NoIpc) × (d' ≡ d) × (lines' ≡ lines) × (below' ≡ below))
+InsAt d lines below node n answer d' lines' below' = AtHome (home node d.config.members) (λ i. Ins d lines below i n answer d' lines' below') ((answer ≡ Err NoIpc) × (d' ≡ d) × (lines' ≡ lines) × (below' ≡ below))
 
 -- and of the one at a node
 pub record TakesHome (d : Dif) (lines : List Direction) (below : Seen) (node n : ℕ) (result : Result InStep StepError) (d' : Dif) (below' : Seen) : Type 0 where
-  pub lines' : List Direction
+  pub answer : Result InStep StepError
+  pub between : List Direction
   pub taken : Dif
-  pub does : InsAt (seen_of d) lines below node n result (seen_of taken) lines' below'
-  pub links : (links : LinksStand d below) → AtHome (home node (config_of d.settings).members) (λ i. TakesLinks d links.lines below i n result taken) (taken.connections ≡ d.connections)
+  pub does : InsAt (seen_of d) lines below node n answer (seen_of taken) between below'
+  pub links : (links : LinksStand d below) → AtHome (home node (config_of d.settings).members) (λ i. TakesLinks d links.lines below i n answer taken) (taken.connections ≡ d.connections)
   pub managed : taken.managements ≡ d.managements
-  pub handles : AtHome (home node (config_of d.settings).members) (λ i. Handles d below i n result taken below' d') (d' ≡ taken)
-  pub rerouted : MayReroute (seen_of taken) (seen_of d')
+  pub handled : Dif
+  pub handles : AtHome (home node (config_of d.settings).members) (λ i. Handles d below i n answer taken below' handled) (handled ≡ taken)
+  pub rerouted : MayReroute (seen_of taken) (seen_of handled)
+  pub stood : Holds handled between below'
+  pub lines' : List Direction
+  pub told : AtHome (home node (config_of d.settings).members) (λ i. TellsFlows d below i n answer handled between below' result d' lines') (TellsNothing answer handled between result d' lines')
   pub holds : Holds d' lines' below'

@@ -61,7 +61,7 @@ pub record GivesUp (d : Dif) (lines : List Direction) (below : Seen) (at : ℕ) 
 abbrev pub GivesUpAs : Dif → List Direction → Seen → ℕ → Result (Option Num) Memory → Dif → Type 0
 GivesUpAs d lines below at (Ok (Some num)) d' = GivesUp d lines below at num d'
 GivesUpAs d lines below at (Ok None) d' = GivesNoneUp (config_of d.settings) at d.flows.conns lines × (d' ≡ d)
-GivesUpAs d lines below at (Err e) d' = d' ≡ d
+GivesUpAs d lines below at (Err e) d' = (seen_of d' ≡ seen_of d) × Holds d' lines below
 
 -- A PDU that is made beside a send
 

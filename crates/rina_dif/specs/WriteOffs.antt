@@ -1,6 +1,7 @@
 -- What the calls of a DIF write off: whatever a call writes into a ledger, the condition of its cause held before it.
-use Rattle.std.specs.Prelude.{◌≡◌, ◌⊎◌, ℕ, List, length, slice_get, Option, Some, Result}
+use Rattle.std.specs.Prelude.{◌≡◌, ◌⊎◌, ℕ, List, length, slice_get, Option, Some, Result, Ok}
 use Rattle.rina_account.specs.declared.ledger.Off.{Off}
+use Rattle.rina_alloc.specs.declared.message.FlowMessage.{FlowMessage}
 use Rattle.rina_base.specs.declared.cause.Cause.TheVariants.{QueueFull}
 use Rattle.rina_base.specs.declared.number.Num.{Num}
 use Rattle.rina_base.specs.declared.number.Port.{Port}
@@ -16,11 +17,13 @@ use Rattle.rina_channel.specs.declared.channel.Channel.{Channel}
 use Rattle.rina_channel.specs.Changes.{IsQueueOf}
 use Rattle.rina_data.specs.Process.{Process, Queue}
 use Rattle.rina_dif_law.specs.Dif.{DifSeen}
+use Rattle.rina_dif_law.specs.Sending.{home}
 use Rattle.rina_dif_law.specs.WriteOffLaws.{MayFailOff, Nothing}
 use Rattle.rina_dif_law.specs.WriteOffs.{IsOverNow, MayWriteOff, NoPort, RefusesOver, Writes}
 use Rattle.rina_dif.specs.declared.dif.Dif.{Dif}
 use Rattle.rina_dif.specs.Clocking.{ClockSteps}
 use Rattle.rina_dif.specs.Facade.{PassesAt}
+use Rattle.rina_dif.specs.FlowMessages.{HandlesFlows}
 use Rattle.rina_dif.specs.Freeing.{FreesAt}
 use Rattle.rina_dif.specs.Holding.{Holds}
 use Rattle.rina_dif.specs.Sending.{SendsAt}
@@ -50,6 +53,27 @@ pub record MayFailWith (d : Dif) (lines : List Direction) (below : Seen) (node :
   pub loses : LosesWith d lines below place node number d'
   pub may : MayFailOff (with_lost (seen_of d) place loses.loses.loses.place loses.loses.loses.link loses.loses.routes loses.loses.loses.process loses.offs) lines below node loses.loses.loses.link.port i off
 
+-- a step of the member at a node takes an SDU, of the messages about flows that this makes whole some were handled, and the condition holds then:
+-- the next one closes an end, whose connection held the piece
+pub record MayTellOff (d : Dif) (lines : List Direction) (below : Seen) (node : ℕ) (i : ℕ) (off : Off) : Type 0 where
+  pub n : ℕ
+  pub result : Result InStep StepError
+  pub d' : Dif
+  pub below' : Seen
+  pub takes : TakesHome d lines below node n result d' below'
+  pub place : ℕ
+  pub at_home : home node (config_of d.settings).members ≡ Some place
+  pub before : List FlowMessage
+  pub mid : Dif
+  pub between : List Direction
+  pub handles : HandlesFlows takes.handled takes.between below' place before (Ok tt) mid between
+  pub holds : Holds mid between below'
+  pub may : MayWriteOff (seen_of mid) between below' NoPort i off
+
+-- what an in step at a node may write
+abbrev pub MayByIn : Dif → List Direction → Seen → ℕ → ℕ → Off → Type 0
+MayByIn d lines below node i off = MayWriteOff (seen_of d) lines below NoPort i off ⊎ MayTellOff d lines below node i off
+
 -- the management connection of a live link made the PDU, whose queue there is full
 pub record MayFillOff (d : Dif) (i : ℕ) (off : Off) : Type 0 where
   pub place : ℕ
@@ -75,7 +99,7 @@ OutStepsOfDifsWrite = (refuses : Port → ℕ → Option SendError) (d : Dif) (l
 
 abbrev pub InStepsOfDifsWrite : Type 0
 InStepsOfDifsWrite = (d : Dif) (lines : List Direction) (below : Seen) (node n : ℕ) (result : Result InStep StepError) (d' : Dif) (below' : Seen) →
-    Holds d lines below → TakesHome d lines below node n result d' below' → Writes (MayWriteOff (seen_of d) lines below NoPort) (seen_of d) (seen_of d')
+    Holds d lines below → TakesHome d lines below node n result d' below' → Writes (MayByIn d lines below node) (seen_of d) (seen_of d')
 
 abbrev pub ClockStepsOfDifsWrite : Type 0
 ClockStepsOfDifsWrite = (d : Dif) (lines : List Direction) (below : Seen) (node : ℕ) (result : Result ClockStep StepError) (d' : Dif) (below' : Seen) →

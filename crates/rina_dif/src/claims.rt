@@ -11,7 +11,7 @@ ghost use Rattle.rina_data.specs.declared.process.IpcProcess.{IpcProcess};
 ghost use Rattle.rina_data.specs.Configs.{config_of};
 ghost use Rattle.rina_dif_law.specs.Cloud.{IsMine};
 ghost use Rattle.rina_dif_law.specs.Sending.{home};
-ghost use Rattle.rina_dif.specs.Changing.{ManagesStep};
+ghost use Rattle.rina_dif.specs.FlowEnds.{ManagesStep};
 ghost use Rattle.rina_dif.specs.Claiming.{ClaimsHere, ClaimsIn, ClaimsManaged, FindsAwaiting, IsAwaiting, IsOfChannel, TakesClaimed, awaiting, channels_of, is_awaiting};
 ghost use Rattle.rina_dif.specs.Clocking.{ClaimsOrServes};
 ghost use Rattle.rina_dif.specs.Elsewhere.{ChangesOnly, ChangesProcess, MayClock};
@@ -30,7 +30,7 @@ use rina_member::claimed;
 use std::alloc::Global;
 
 /// Claims the first flow that came in for an application at a node, of the facilities below in the order of their numbers from 0, and
-/// answers its port. None exactly where none waits.
+/// answers its port. None exactly where none waits. Where no flow waits at any of them, none is asked.
 fn claim_first<F: Facility>(below: &mut F, node: Node, app: &AppName) -> Option<Port>
     requires valid { F.valid below.old }
     ensures valid { F.valid below.new }
@@ -39,6 +39,9 @@ fn claim_first<F: Facility>(below: &mut F, node: Node, app: &AppName) -> Option<
     ensures claims { ClaimsIn (F.seen below.old) node app.now result (F.seen below.new) }
     ensures lower { ClaimsInTurn (λ x fac answer y. F.does_incoming x fac node app.now answer y) below.old result below.new }
 {
+    if below.none_waits() {
+        return None;
+    }
     for fac in 0..u16::MAX {
         if below.journal(fac).is_none() {
             return None;
@@ -222,7 +225,7 @@ impl Dif {
         ensures lower { ClocksBelow (λ x fac answer y. F.does_incoming x fac node (name_of self.old at) answer y) (FreesAsSeen F.seen F.frees_both F.does_free) below.old result below.new }
         ensures same { (self.new.settings ≡ self.old.settings) × (self.new.failed ≡ self.old.failed) }
         ensures laid { self.new.laid ≡ self.old.laid }
-        ensures whole { self.new ≡ record self.old { processes = self.new.processes; connections = self.new.connections; flows = self.new.flows; ids = self.new.ids; managements = self.new.managements } }
+        ensures whole { self.new ≡ record self.old { processes = self.new.processes; connections = self.new.connections; flows = self.new.flows; ids = self.new.ids; asks = self.new.asks; managements = self.new.managements } }
         ensures stays { OnErr result (self.new.connections ≡ self.old.connections) }
         ensures manages { ManagesStep result (Some at) self.old (F.seen below.old) node self.new.managements }
         ensures leaves { ChangesOnly (MayClock result self.old (Some at)) (Some at) self.old self.new }

@@ -8,14 +8,14 @@ ghost use Rattle.rina_data.specs.Configs.{config_of};
 ghost use Rattle.rina_dif_law.specs.Sending.{home};
 ghost use Rattle.rina_dif_law.specs.Upward.{IsSilent};
 ghost use Rattle.rina_data.specs.declared.step.StepError.TheVariants.{Memory as MemoryWanted};
-ghost use Rattle.rina_dif.specs.Clocking.{ClockSteps, FailsLate, FindsFirst, FindsLinkFirst, FindsNext, IsDueAt, IsHere, IsIn, ServesHere, StepsFlowHere, StepsHere, earlier, item_of};
+ghost use Rattle.rina_dif.specs.Clocking.{ClockSteps, FailsLate, FindsAskFirst, FindsFirst, FindsLinkFirst, FindsNext, IsDueAt, IsHere, IsIn, NoFlowEnds, NoLinkEnds, ServesHere, StepsFlowHere, StepsHere, TellsEnding, earlier, item_of};
 ghost use Rattle.rina_dif.specs.Elsewhere.{ChangesOnly, ChangesProcess, MayClock, home_of};
 ghost use Rattle.rina_dif.specs.Facade.{GoesOn, OthersStand};
 ghost use Rattle.rina_dif.specs.Holding.{Holds, LinksStand, Stands};
 ghost use Rattle.rina_dif.specs.LinkDue.{IsLinkTurn, rank_of};
 ghost use Rattle.rina_dif.specs.LinkSteps.{DoesLink, ServesOver};
 ghost use Rattle.rina_dif.specs.Lower.{ClocksBelow, FreesBelow, FreesOver, name_here, name_of};
-ghost use Rattle.rina_dif.specs.Changing.{ManagesStep};
+ghost use Rattle.rina_dif.specs.FlowEnds.{ManagesStep};
 ghost use Rattle.rina_dif.specs.MessageSteps.{IfIdle};
 ghost use Rattle.rina_dif.specs.Shown.{seen_of};
 ghost use Rattle.rina_flows.specs.Watching.{NoneDueBeside};
@@ -213,6 +213,43 @@ impl Dif {
         }
     }
 
+    /// Whether held pieces are of a state that has ended, or a number is given up, at the links of the IPC process at a place.
+    fn links_end(&self, at: usize) -> bool
+        ensures { (below : Seen) (links : LinksStand self.now below) → TellsEnding (NoLinkEnds self.now links.lines at) result }
+    {
+        match self.next_link_due(at) {
+            Some(link) => rank(link.item) < rank(Item::Ack),
+            None => false,
+        }
+    }
+
+    /// Whether held pieces are of a state that has ended, or a number is given up, at the flows of a node.
+    fn flows_end(&self, node: Node) -> bool
+        ensures { (lines : List Direction) (below : Seen) → Holds self.now lines below → TellsEnding (NoFlowEnds self.now lines node) result }
+    {
+        match self.next_due(node) {
+            Some(flow) => rank(flow.item) < rank(Item::Ack),
+            None => false,
+        }
+    }
+
+    /// Where the ask stands that goes before all else that is due at the IPC process at a place, at a node: the first that is late there, where
+    /// nothing ends. None exactly where none does.
+    fn first_ask(&self, at: usize, node: Node) -> Option<usize>
+        requires home { home node (config_of self.now.settings).members ≡ Some at }
+        requires clock { self.now.clock ≤ 10_000_000 }
+        ensures { (lines : List Direction) (below : Seen) → Holds self.now lines below → (links : LinksStand self.now below) → FindsAskFirst self.now lines links.lines at node result }
+    {
+        let which = self.late_ask(at, node)?;
+        if self.links_end(at) {
+            return None;
+        }
+        if self.flows_end(node) {
+            return None;
+        }
+        Some(which)
+    }
+
     /// Does the item that is due at the management connection of a link, whose turn it is, at the IPC process at a place. Where a
     /// number is given up the flow below of the link is freed; nothing else changes below. Without memory nothing changes.
     fn serve_link<F: Facility>(
@@ -255,8 +292,8 @@ impl Dif {
         }
     }
 
-    /// Serves the link that goes first at the IPC process at a place, at a node, or the first item that is due at the flows there.
-    /// Where nothing is due, nothing changes.
+    /// Gives up the ask that goes first at the IPC process at a place, at a node, or serves the link that goes first there, or the first item that
+    /// is due at the flows of the node. Where nothing is due, nothing changes.
     pub(crate) fn serve_next<F: Facility>(
         &mut self,
         alloc: Global,
@@ -276,12 +313,16 @@ impl Dif {
         ensures lower { FreesBelow (below.new ≡ below.old) (FreesAsSeen F.seen F.frees_both F.does_free below.old below.new) result }
         ensures same { (self.new.settings ≡ self.old.settings) × (self.new.failed ≡ self.old.failed) }
         ensures laid { self.new.laid ≡ self.old.laid }
-        ensures whole { self.new ≡ record self.old { processes = self.new.processes; connections = self.new.connections; flows = self.new.flows; ids = self.new.ids; managements = self.new.managements } }
+        ensures whole { self.new ≡ record self.old { processes = self.new.processes; connections = self.new.connections; flows = self.new.flows; ids = self.new.ids; asks = self.new.asks; managements = self.new.managements } }
         ensures idle { IfOk result (λ done. IfIdle done (self.new ≡ self.old)) }
         ensures stays { OnErr result (self.new.connections ≡ self.old.connections) }
         ensures manages { ManagesStep result (Some at) self.old (F.seen below.old) node self.new.managements }
         ensures leaves { ChangesOnly (MayClock result self.old (Some at)) (Some at) self.old self.new }
     {
+        if let Some(which) = self.first_ask(at, node) {
+            let port = self.time_out(at, node, which);
+            return Ok(ClockStep::Timeout { port });
+        }
         match self.first_link(at, node) {
             Some(next) => Ok(self.serve_link(alloc, below, at, next)?),
             None => self.do_next(alloc, at, node),
@@ -310,7 +351,7 @@ impl Dif {
         ensures lower { ClocksBelow (λ x fac answer y. F.does_incoming x fac node (name_of self.old at) answer y) (FreesAsSeen F.seen F.frees_both F.does_free) below.old result below.new }
         ensures same { (self.new.settings ≡ self.old.settings) × (self.new.failed ≡ self.old.failed) }
         ensures laid { self.new.laid ≡ self.old.laid }
-        ensures whole { self.new ≡ record self.old { processes = self.new.processes; connections = self.new.connections; flows = self.new.flows; ids = self.new.ids; managements = self.new.managements } }
+        ensures whole { self.new ≡ record self.old { processes = self.new.processes; connections = self.new.connections; flows = self.new.flows; ids = self.new.ids; asks = self.new.asks; managements = self.new.managements } }
         ensures stays { OnErr result (self.new.connections ≡ self.old.connections) }
         ensures manages { ManagesStep result (Some at) self.old (F.seen below.old) node self.new.managements }
         ensures leaves { ChangesOnly (MayClock result self.old (Some at)) (Some at) self.old self.new }
@@ -331,9 +372,10 @@ impl Dif {
     /// connection closes with it, and where no link is left
     /// and that flow has failed, all flows of the node fail with it; a flow that came in below for the member is claimed as a new link, where the
     /// IPC process has fewer than 16 live links, the first facility in the order of their numbers going first; pieces that are held of a state that
-    /// has ended are written off; a number is given up, and its flow fails; an acknowledgement is made; a number is sent again. Of each of
-    /// the last four the management connections of the live links go first, the one of the least link number before the others,
-    /// and then the flows there, the one of the least CEP-id first. Where a management connection gives a number up the flow
+    /// has ended are written off; a number is given up, its flow fails, and a message that tells the far end waits at the member, where there is a
+    /// way; the ask of a flow that has waited for its whole time is given up, the one first that was made first; an acknowledgement is made; a
+    /// number is sent again. Of each of the four of these that flows do the management connections of the live links go first, the one of the
+    /// least link number before the others, and then the flows there, the one of the least CEP-id first. Where a management connection gives a number up the flow
     /// below of its link is freed, and no flow fails. Last of all a message of management is offered whole at its link, the one
     /// of the least number at which one is due. A flow that came in and that no management connection awaits is claimed too, and is no link:
     /// the step goes on as where none came in. Answers Idle exactly where none is due. Refused with `CountSpent`, and nothing changes,
@@ -357,7 +399,7 @@ impl Dif {
         ensures others { OthersStand self.old (F.seen below.old) (F.seen below.new) }
         ensures settings { self.new.settings ≡ self.old.settings }
         ensures laid { self.new.laid ≡ self.old.laid }
-        ensures whole { self.new ≡ record self.old { processes = self.new.processes; connections = self.new.connections; flows = self.new.flows; ids = self.new.ids; managements = self.new.managements; failed = self.new.failed } }
+        ensures whole { self.new ≡ record self.old { processes = self.new.processes; connections = self.new.connections; flows = self.new.flows; ids = self.new.ids; asks = self.new.asks; managements = self.new.managements; failed = self.new.failed } }
         ensures stays { OnErr result (self.new.connections ≡ self.old.connections) }
         ensures leaves { ChangesOnly (MayClock result self.old (home_of self.old node)) (home_of self.old node) self.old self.new }
         ensures failed { self.old.failed ≡ true → result ≡ Err MemoryWanted }

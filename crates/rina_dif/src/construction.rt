@@ -117,7 +117,7 @@ impl Dif {
         ensures exact { IfOk result (λ d. IsNew plan.now at d (F.seen below.old) (F.seen below.new)) }
         ensures whole { OnOk result (BindsInTurn F.does_bind below.old (links_of plan.now at) below.new) }
         ensures connected { IfOk result (λ d. (dif : DifPlan) → slice_get plan.now.difs at ≡ Some dif → IsConnected d dif.manage (links_of plan.now at) (F.seen below.old) (F.seen below.new)) }
-        ensures laid_so { IfOk result (λ d. (dif : DifPlan) → slice_get plan.now.difs at ≡ Some dif → d.laid ≡ record { is_static = dif.is_static; links = dif.links }) }
+        ensures laid_so { IfOk result (λ d. (dif : DifPlan) → slice_get plan.now.difs at ≡ Some dif → d.laid ≡ record { is_static = dif.is_static; links = dif.links; wait = dif.wait }) }
     {
         let Some(dif) = plan.difs.get(at) else {
             unreachable!()
@@ -131,7 +131,7 @@ impl Dif {
         let members = made.settings.members.as_slice();
         route_all(&mut made.processes, alloc, members, managements.as_slice())?;
         made.managements = managements;
-        made.laid = Layout::of(alloc, dif.is_static, plans)?;
+        made.laid = Layout::of(alloc, dif.is_static, plans, dif.wait)?;
         let (settings, clock) = (&made.settings, made.clock);
         let links = ports.as_slice();
         let manage = dif.manage;

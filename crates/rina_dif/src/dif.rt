@@ -9,6 +9,7 @@ use crate::connections::Connections;
 use crate::layout::Layout;
 use crate::managements::Managements;
 use crate::processes::Processes;
+use crate::waiting_asks::WaitingAsk;
 use rina_base::{Node, Seq, Tick};
 use rina_data::{Member, Settings, StepError};
 use rina_flows::Flows;
@@ -25,7 +26,7 @@ pub struct Dif {
     /// The managements of its members, one for each, in their order: the items that a member holds, what it made of them, and
     /// the objects that it shows. The next hops of an IPC process are read from the items.
     pub(crate) managements: Managements,
-    /// Whether it is static, and its links as they were laid, which never change.
+    /// Whether it is static, its links as they were laid, and how long an asker waits, which never change.
     pub(crate) laid: Layout,
     /// The management connections of its links.
     pub(crate) connections: Connections,
@@ -34,6 +35,8 @@ pub struct Dif {
     pub(crate) ids: MemberIds,
     /// The places of the far ends that nobody has claimed yet, the oldest first.
     pub(crate) waiting: Vec<usize>,
+    /// The asks for flows that wait for their answers, in the order in which they were made.
+    pub(crate) asks: Vec<WaitingAsk>,
     pub(crate) names: Seq<Registered>,
     /// The nodes of its enrolled members, in the order of the members.
     pub(crate) enrolled: Seq<Node>,

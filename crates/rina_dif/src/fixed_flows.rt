@@ -42,7 +42,7 @@ pub struct NextEnd {
 }
 
 /// How many ports were drawn at a node.
-fn drawn(ends: &[End], node: Node) -> usize
+pub(crate) fn drawn(ends: &[End], node: Node) -> usize
     ensures { result ≡ drawn_at node ends.now }
 {
     ends.iter().filter(|end| end.port.node == node).count()
@@ -56,7 +56,7 @@ pub(crate) fn is_asker(end: &End) -> bool
 }
 
 /// How many flows were asked for at a node.
-fn asked(ends: &[End], node: Node) -> usize
+pub(crate) fn asked(ends: &[End], node: Node) -> usize
     ensures { result ≡ asked_at node ends.now }
 {
     ends.iter()
@@ -134,10 +134,10 @@ fn add_flow(
 }
 
 /// Whether a flow was not made for want of memory.
-fn wants_memory(bound: &Result<(Port, Port), AllocateError>) -> bool
-    ensures { result ≡ true ↔ (bound.now ≡ Err MemoryWanted) }
+pub(crate) fn wants_memory<T>(made: &Result<T, AllocateError>) -> bool
+    ensures { result ≡ true ↔ (made.now ≡ Err MemoryWanted) }
 {
-    matches!(bound, Err(AllocateError::Memory))
+    matches!(made, Err(AllocateError::Memory))
 }
 
 impl Dif {

@@ -138,7 +138,11 @@ impl Dif {
 
     /// The place of the end of the link with a port below that takes a PDU as a piece of the link's own, and the piece by the places
     /// of the two ends. None exactly where no end takes it so.
-    fn piece_taker<'a>(&self, port: Port, came: &Came<'a>) -> Option<(usize, PduView<'a>)>
+    pub(crate) fn piece_taker<'a>(
+        &self,
+        port: Port,
+        came: &Came<'a>,
+    ) -> Option<(usize, PduView<'a>)>
         ensures { OwnPieceTakenBy self.now came.now.since port (hop_of came.now.hop) result }
     {
         if self.is_for_link(came) {
@@ -170,15 +174,9 @@ impl Dif {
         let Some((place, pdu)) = self.piece_taker(port, came) else {
             return Ok(None);
         };
-        let management = self.management_ahead(alloc, at, place, number, &pdu)?;
-        let routes = self.routes_over(alloc, &management)?;
-        let enrolled = self.enrolled_after(alloc, at, &management)?;
-        Ok(Some(Handled {
-            place,
-            management,
-            routes,
-            enrolled,
-        }))
+        let after = self.management_ahead(alloc, at, place, number, &pdu)?;
+        let change = self.change_ahead(alloc, at, after)?;
+        Ok(Some(Handled { place, change }))
     }
 
     /// Lets the management connection of the link with a port below take a PDU that came there in time, and is for it.
@@ -249,7 +247,9 @@ impl Dif {
         }
     }
 
-    /// Takes the oldest SDU of a link of the IPC process at a place, and lets the member there handle the messages that it makes whole.
+    /// Takes the oldest SDU of a link of the IPC process at a place, and lets the member there handle the messages that it makes whole:
+    /// those of neighbours first, and then those about flows, one after the other. Where memory runs out at one of these, the SDU was taken
+    /// and what was handled before stands.
     fn in_step_at<F: Facility>(
         &mut self,
         alloc: Global,
@@ -268,7 +268,7 @@ impl Dif {
         ensures lower { PassesBelow (below.new ≡ below.old) (PassesAsSeen F.seen F.does_pass below.old below.new) result }
         ensures settings { self.new.settings ≡ self.old.settings }
         ensures laid { self.new.laid ≡ self.old.laid }
-        ensures whole { self.new ≡ record self.old { processes = self.new.processes; flows = self.new.flows; connections = self.new.connections; managements = self.new.managements; enrolled = self.new.enrolled } }
+        ensures whole { self.new ≡ record self.old { processes = self.new.processes; flows = self.new.flows; connections = self.new.connections; managements = self.new.managements; enrolled = self.new.enrolled; ids = self.new.ids; waiting = self.new.waiting; asks = self.new.asks } }
         ensures enrolled { StayEnrolled self.old.enrolled self.new.enrolled }
         ensures leaves { ChangesOnly (MayTake result self.old (Some at)) (Some at) self.old self.new }
         ensures failed { self.new.failed ≡ self.old.failed }
@@ -298,16 +298,18 @@ impl Dif {
                 return Err(StepError::CountSpent { need, left });
             }
         };
+        let messages = self.flow_messages_ahead(alloc, port, &came)?;
         let end = self.settle(alloc, at, port, &came)?;
         below.pass(port);
         self.handle_messages(at, link, handled);
+        self.take_messages(alloc, at, messages)?;
         Ok(InStep::Took { key, end })
     }
 
     /// Takes one step of the IPC process at a node at a link: the oldest SDU that waits there is taken, and the PDU in
     /// it delivered to its connection or to that of the link, relayed, or written off. The messages of management that it makes whole are
-    /// handled in the same step. Refused with `CountSpent`, and nothing changes, where the member has too few version counts or invoke ids
-    /// left for one of them.
+    /// handled in the same step, and so are those about flows: the member passes each of these on, or handles it. Refused with `CountSpent`,
+    /// and nothing changes, where the member has too few version counts or invoke ids left for a message of a neighbour.
     pub fn in_step<F: Facility>(
         &mut self,
         alloc: Global,
@@ -327,7 +329,7 @@ impl Dif {
         ensures others { OthersStand self.old (F.seen below.old) (F.seen below.new) }
         ensures settings { self.new.settings ≡ self.old.settings }
         ensures laid { self.new.laid ≡ self.old.laid }
-        ensures whole { self.new ≡ record self.old { processes = self.new.processes; flows = self.new.flows; connections = self.new.connections; managements = self.new.managements; enrolled = self.new.enrolled; failed = self.new.failed } }
+        ensures whole { self.new ≡ record self.old { processes = self.new.processes; flows = self.new.flows; connections = self.new.connections; managements = self.new.managements; enrolled = self.new.enrolled; ids = self.new.ids; waiting = self.new.waiting; asks = self.new.asks; failed = self.new.failed } }
         ensures leaves { ChangesOnly (MayTake result self.old (home_of self.old node)) (home_of self.old node) self.old self.new }
         ensures failed { self.old.failed ≡ true → result ≡ Err MemoryWanted }
         ensures fails { self.new.failed ≡ true ↔ (result ≡ Err MemoryWanted) }

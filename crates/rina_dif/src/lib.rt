@@ -3,6 +3,10 @@
 
 mod absence;
 mod agreement;
+mod answers;
+mod answers_in;
+mod ask_refusals;
+mod asked_flow;
 mod asks;
 mod cdap;
 mod claims;
@@ -10,13 +14,18 @@ mod clock;
 mod clock_steps;
 mod connections;
 mod construction;
+mod deletes;
+mod deletes_in;
 mod dif;
 mod due;
 mod enrol;
 mod facade;
+mod far_ends;
 mod fixed_flows;
+mod flow_messages;
 mod flow_state;
 mod in_step;
+mod kept_routes;
 mod layout;
 mod links_due;
 mod links_serve;
@@ -39,6 +48,7 @@ mod send;
 mod shown;
 mod start;
 mod text;
+mod waiting_asks;
 mod write_offs;
 
 pub use absence::state_ends_by_the_clock;

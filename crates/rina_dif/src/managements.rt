@@ -1,7 +1,11 @@
 //! The managements of the members of a DIF, and the next hops over the items that they hold.
-ghost use Rattle.std.specs.Prelude.{◌≡◌, ◌<◌, ◌≤◌, [], ◌∷◌, ◌++◌, length, map, slice_get, slice_set, Some, IfOk, OnOk, OnErr, MatchOption, if◌then◌else◌};
+ghost use Rattle.std.specs.Prelude.{◌≡◌, ◌<◌, ◌≤◌, ◌+◌, [], ◌∷◌, ◌++◌, length, map, slice_get, slice_set, None, Some, IfOk, OnOk, OnErr, MatchOption, if◌then◌else◌};
+ghost use Rattle.rina_agent.specs.Counts.{spent};
 ghost use Rattle.rina_dif.specs.Changing.{MayHaveEntered, changed_at, with_flow_at};
 ghost use Rattle.rina_dif.specs.Managing.{AreStarted};
+ghost use Rattle.rina_dif.specs.Posting.{posted};
+ghost use Rattle.rina_dif.specs.Requesting.{with_invoke_at};
+ghost use Rattle.rina_member.specs.declared.management.Management.{Management};
 ghost use Rattle.rina_dif.specs.Routing.{AreRouted};
 ghost use Rattle.rina_member.specs.Managements.{entered, with_objects, with_sent};
 ghost use Rattle.rina_member.specs.Objects.{first_objects, removed};
@@ -9,6 +13,7 @@ ghost use Rattle.rina_member.specs.Objects.{first_objects, removed};
 use crate::dif::Dif;
 use crate::processes::Processes;
 use rina_access::{Rule, Rules};
+use rina_alloc::FlowMessage;
 use rina_base::{Addr, AppName, Cep, Memory, Seq};
 use rina_cube::Cube;
 use rina_data::Member;
@@ -102,6 +107,39 @@ impl Managements {
         ensures { self.new ≡ changed_at at (λ m. with_objects m (removed m.objects name.now)) self.old }
     {
         self.items[at].remove(name);
+    }
+
+    /// Lets a message about a flow wait for a link of the member at a place. Without memory nothing changes.
+    pub fn put_message(
+        &mut self,
+        alloc: Global,
+        at: usize,
+        link: u16,
+        message: FlowMessage,
+    ) -> Result<(), Memory>
+        requires { at < length self.old }
+        ensures ok { OnOk result (self.new ≡ posted at (Some link) message self.old) }
+        ensures err { OnErr result (self.new ≡ self.old) }
+    {
+        self.items[at].agent.put_message(alloc, link, message)
+    }
+
+    /// The invoke id that the member at a place draws next. It has one left.
+    pub fn next_invoke(&self, at: usize) -> u32
+        requires at { at < length self.now }
+        requires left { (m : Management) → slice_get self.now at ≡ Some m → spent 1 m.agent.last_invoke ≡ None }
+        ensures { (m : Management) → slice_get self.now at ≡ Some m → result ≡ m.agent.last_invoke + 1 }
+    {
+        self.items[at].agent.last_invoke + 1
+    }
+
+    /// Draws the next invoke id of the member at a place, which has one left. Takes no memory.
+    pub fn draw_invoke(&mut self, at: usize)
+        requires at { at < length self.old }
+        requires left { (m : Management) → slice_get self.old at ≡ Some m → spent 1 m.agent.last_invoke ≡ None }
+        ensures { self.new ≡ with_invoke_at at self.old }
+    {
+        self.items[at].agent.last_invoke += 1;
     }
 
     /// Takes the first message that waits for a link of the member at a place away, which was sent. Takes no memory.

@@ -6,7 +6,7 @@ ghost use Rattle.rina_iface.specs.Seen.{Seen};
 ghost use Rattle.rina_law.specs.Direction.{Direction};
 ghost use Rattle.rina_data.specs.Configs.{config_of};
 ghost use Rattle.rina_dif_law.specs.Sending.{home};
-ghost use Rattle.rina_dif.specs.Changing.{ManagesStep};
+ghost use Rattle.rina_dif.specs.FlowEnds.{ManagesStep};
 ghost use Rattle.rina_dif.specs.Clocking.{ServesAnyHere};
 ghost use Rattle.rina_dif.specs.Elsewhere.{ChangesOnly, MayClock};
 ghost use Rattle.rina_dif.specs.Holding.{Holds, Stands};
@@ -41,7 +41,7 @@ impl Dif {
         ensures lower { FreesBelow (below.new ≡ below.old) (FreesAsSeen F.seen F.frees_both F.does_free below.old below.new) result }
         ensures same { (self.new.settings ≡ self.old.settings) × (self.new.failed ≡ self.old.failed) }
         ensures laid { self.new.laid ≡ self.old.laid }
-        ensures whole { self.new ≡ record self.old { processes = self.new.processes; connections = self.new.connections; flows = self.new.flows; ids = self.new.ids; managements = self.new.managements } }
+        ensures whole { self.new ≡ record self.old { processes = self.new.processes; connections = self.new.connections; flows = self.new.flows; ids = self.new.ids; asks = self.new.asks; managements = self.new.managements } }
         ensures stays { OnErr result (self.new.connections ≡ self.old.connections) }
         ensures manages { ManagesStep result (Some at) self.old (F.seen below.old) node self.new.managements }
         ensures leaves { ChangesOnly (MayClock result self.old (Some at)) (Some at) self.old self.new }

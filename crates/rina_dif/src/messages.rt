@@ -10,7 +10,7 @@ ghost use Rattle.rina_channel.specs.Names.{unnamed};
 ghost use Rattle.rina_dif.specs.Elsewhere.{ChangesProcess};
 ghost use Rattle.rina_dif.specs.Holding.{Holds, Stands};
 ghost use Rattle.rina_dif.specs.Messaging.{FindsOpenEnd, IsAllocated, IsOpenEnd, IsReady, OffersAmong, OffersAt, TellsFirstSdu, TellsRoomFor};
-ghost use Rattle.rina_dif.specs.Telling.{TellNeighbours};
+ghost use Rattle.rina_dif.specs.Telling.{TellShort};
 
 use crate::dif::Dif;
 use crate::processes::MOST_LINKS;
@@ -69,7 +69,7 @@ impl Dif {
 
     /// The SDU of the message that waits first for the link of a number at the member of a place. None exactly where none waits.
     fn first_sdu(&self, alloc: Global, at: usize, number: u16) -> Result<Option<Vec<u8>>, Memory>
-        requires tell { TellNeighbours self.now.managements }
+        requires tell { TellShort self.now.managements }
         ensures first { IfOk result (TellsFirstSdu self.now at number) }
         ensures short { IfOk result (λ sdu. IfSome sdu (λ bytes. length bytes.items ≤ 325)) }
     {
@@ -107,7 +107,7 @@ impl Dif {
     ) -> Result<bool, Memory>
         requires stands { (below : Seen) × Stands self.old below }
         requires clock { self.old.clock ≤ 10_000_000 }
-        requires tell { TellNeighbours self.old.managements }
+        requires tell { TellShort self.old.managements }
         requires ready { IsReady self.old at place number sdu.now }
         ensures does { (lines : List Direction) (below : Seen) → Holds self.old lines below → IsOpenEnd self.old below at place number → OffersAt self.old lines below at number result self.new }
         ensures whole { self.new ≡ record self.old { processes = self.new.processes; connections = record self.old.connections { flows = self.new.connections.flows }; managements = self.new.managements } }
@@ -142,7 +142,7 @@ impl Dif {
         requires stands { Stands self.old (F.seen below.now) }
         requires clock { self.old.clock ≤ 10_000_000 }
         requires at { at < length self.old.settings.members }
-        requires tell { TellNeighbours self.old.managements }
+        requires tell { TellShort self.old.managements }
         ensures does { (lines : List Direction) → Holds self.old lines (F.seen below.now) → OffersAt self.old lines (F.seen below.now) at number result self.new }
         ensures whole { self.new ≡ record self.old { processes = self.new.processes; connections = record self.old.connections { flows = self.new.connections.flows }; managements = self.new.managements } }
         ensures leaves { ChangesProcess (Some at) self.old.processes self.new.processes }
@@ -172,7 +172,7 @@ impl Dif {
         requires stands { Stands self.old (F.seen below.now) }
         requires clock { self.old.clock ≤ 10_000_000 }
         requires at { at < length self.old.settings.members }
-        requires tell { TellNeighbours self.old.managements }
+        requires tell { TellShort self.old.managements }
         ensures does { (lines : List Direction) → Holds self.old lines (F.seen below.now) → OffersAmong self.old lines (F.seen below.now) at result self.new }
         ensures whole { self.new ≡ record self.old { processes = self.new.processes; connections = record self.old.connections { flows = self.new.connections.flows }; managements = self.new.managements } }
         ensures leaves { ChangesProcess (Some at) self.old.processes self.new.processes }

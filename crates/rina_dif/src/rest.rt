@@ -89,7 +89,8 @@ impl Dif {
         let until = self
             .flows
             .quiet_until()
-            .min(self.connections.flows.quiet_until());
+            .min(self.connections.flows.quiet_until())
+            .min(self.asks_wait_until());
         if until <= self.clock || self.failed {
             return self.clock;
         }

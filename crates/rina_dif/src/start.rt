@@ -122,6 +122,7 @@ impl Dif {
             flows: Flows::new(alloc),
             ids,
             waiting: Vec::new(alloc),
+            asks: Vec::new(alloc),
             names: Seq::new(alloc),
             enrolled,
             failed: false,

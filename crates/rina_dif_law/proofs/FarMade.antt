@@ -1,9 +1,9 @@
 -- A DIF that stands goes on to stand as a member makes the far end of a flow that was asked for there.
-use Rattle.std.proofs.Common.{◌≡◌, ◌≢◌, ℕ, ◌+◌, ◌*◌, ◌<◌, ◌&&◌, cond, eqb, List, [], ◌∷◌, ◌++◌, get_or, length, length-set, slice_get, slice_set, None, Option, Some, option_and_then, refl, sym, ◌∙◌, ap, subst, arith, inl, inr, ◌⊎◌}
+use Rattle.std.proofs.Common.{◌≡◌, ◌≢◌, ℕ, ◌+◌, ◌*◌, ◌<◌, ◌≤◌, ◌&&◌, cond, eqb, List, [], ◌∷◌, ◌++◌, get_or, length, length-set, slice_get, slice_set, None, Option, Some, option_and_then, refl, sym, ◌∙◌, ap, subst, arith, inl, inr, ◌⊎◌}
 use Rattle.std.specs.Prelude.{position}
 use Rattle.std.proofs.lemmas.Bool.{cases_eq}
 use Rattle.std.proofs.lemmas.List.Quantifiers.{position-Some}
-use Rattle.std.proofs.lemmas.Option.{get_or_from_slice_get, same_Some}
+use Rattle.std.proofs.lemmas.Option.{get_or_from_slice_get, same_Some, slice_get_within}
 use Rattle.rina_base.specs.declared.number.Key.{Key}
 use Rattle.rina_base.specs.declared.pdu.Pdu.{Pdu}
 use Rattle.rina_cube.specs.declared.Cube.{Cube}
@@ -13,7 +13,7 @@ use Rattle.rina_iface.specs.declared.state.PortState.TheVariants.{Allocated}
 use Rattle.rina_iface.specs.declared.state.Role.{Role}
 use Rattle.rina_iface.specs.declared.state.Role.TheVariants.{Asker, Far}
 use Rattle.rina_iface.specs.Journal.{At, HasPartner, HasPorts, IsPartner, IsWhole}
-use Rattle.rina_iface.specs.Later.{IsLaterFac}
+use Rattle.rina_iface.specs.Later.{AreFarOf, IsFarOf, IsLaterFac}
 use Rattle.rina_iface.specs.Seen.{Seen}
 use Rattle.rina_iface.proofs.Changed.{set_at, slice_get-set_other, slice_get-set_same}
 use Rattle.rina_iface.proofs.Grown.{dated_none, still_at}
@@ -36,6 +36,7 @@ use Rattle.rina_dif_law.specs.Numbered.{IsAddressed, IsCounted, IsNumbered}
 use Rattle.rina_dif_law.specs.Places.{IsEndOf, Place}
 use Rattle.rina_dif_law.specs.Standing.{AreIds, IsConn, IsJournal, IsOfFlow, IsOwn, IsStanding}
 use Rattle.rina_dif_law.specs.Start.{IsFresh}
+use Rattle.rina_dif_law.specs.Upward.{IsSilent}
 use Rattle.rina_dif_law.proofs.Accounting.{resends_on}
 use Rattle.rina_dif_law.proofs.Appended.{by_one, fresh_one, kept_one, made_one, one_more, one_no_less, one_ports, still_counted, still_partner}
 use Rattle.rina_dif_law.proofs.Balancing.{accounted_on, moved_same}
@@ -366,3 +367,34 @@ module _ (d : DifSeen) (lines : List Direction) (below : Seen) (st : IsStanding 
 
 pub made_later : (d : DifSeen) (lines : List Direction) (node at : ℕ) (d' : DifSeen) (lines' : List Direction) → IsFarMade d lines node at d' lines' → IsLaterFac d.clock d'.clock (fac_of d) (fac_of d')
 made_later d lines node at d' lines' s = rw s.new_is (record { ends = ends_more d.clock d.clock d.ends _; cubes = refl })
+
+-- the far end that is made is such an end, and the others are as before
+pub made_silent : (d : DifSeen) (lines : List Direction) (node at : ℕ) (d' : DifSeen) (lines' : List Direction) → IsFarMade d lines node at d' lines' → IsSilent d d'
+made_silent d lines node at d' lines' s = record {
+  later = made_later d lines node at d' lines' s;
+  fresh = subst (AreFarOf d.ends) (sym ends_are) (λ i e is past. elim (one_at d.ends far i e is) [
+    | inl old ↦ (let low = slice_get_within d.ends i e old in absurd (omega (arith, low, past)))
+    | inr new ↦ subst (IsFarOf d.ends) (sym new.1) its_far
+  ]);
+  same = λ i e e' x y.
+      let is : e' ≡ e = same_Some e' e (sym (subst (λ (es : List End). At es i e') ends_are y) ∙ still_at d.ends (far ∷ []) i e x) in
+      (ap (λ (z : End). z.sent) is, ap (λ (z : End). z.taken) is);
+}
+  where
+    far : End
+    far = far_end_of d node s.asker
+
+    ends_are : d'.ends ≡ d.ends ++ far ∷ []
+    ends_are = ap (λ (z : DifSeen). z.ends) s.new_is
+
+    its_far : IsFarOf d.ends far
+    its_far = record {
+      place = at;
+      asker = s.asker;
+      stands = s.is_conn.end;
+      far = refl;
+      partner = record { same_flow = refl; other_role = λ same. (let asks = s.asks in let clash : Far ≡ Asker = sym same ∙ asks in cc) };
+      named = record { peer = refl; its_peer = refl; cube = refl };
+      sent = refl;
+      taken = refl;
+    }

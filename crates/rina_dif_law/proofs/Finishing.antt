@@ -23,6 +23,7 @@ use Rattle.rina_dif_law.specs.Upward.{IsSilent}
 use Rattle.rina_dif_law.proofs.After.{NoMore, after_none}
 use Rattle.rina_dif_law.proofs.Carrying.{carrying_same, end_set, line_was}
 use Rattle.rina_dif_law.proofs.Clouds.{NoItem, covers_less}
+use Rattle.rina_dif_law.proofs.FarEnds.{none_fresh}
 use Rattle.rina_dif_law.proofs.Frame.{stands_held}
 use Rattle.rina_dif_law.proofs.HeldIds.{ended_held}
 use Rattle.rina_dif_law.proofs.Journals.{IsConst, journal_set, ports_set}
@@ -69,7 +70,7 @@ restated_silent d at e state conns processes held is moves =
     let e' : End = record e { state = state } in
     record {
       later = record { ends = ends_set d.clock d.clock d.ends at e e' is (end_restated d.clock d.clock e state moves); cubes = refl };
-      number = length-set d.ends at e';
+      fresh = none_fresh d.ends _ (length-set d.ends at e');
       same = λ j a a' x y. elim (set_at d.ends at j e e' a' is y) [
         | inl t ↦
             let there : At d.ends j e = ap (slice_get d.ends) t.0 ∙ is in

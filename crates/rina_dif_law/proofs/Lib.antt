@@ -13,6 +13,7 @@ pub mod Coming
 pub mod Decided
 pub mod Ends
 pub mod Facades
+pub mod FarEnds
 pub mod FarMade
 pub mod Finding
 pub mod Finishing

@@ -6,7 +6,6 @@ use Rattle.rina_iface.specs.declared.state.Fail.TheVariants.{Below}
 use Rattle.rina_iface.specs.declared.state.PortState.TheVariants.{Failed}
 use Rattle.rina_iface.specs.Seen.{Seen}
 use Rattle.rina_iface.proofs.Changed.{set_at}
-use Rattle.rina_iface.proofs.LaterOn.{ends_on, ends_wider}
 use Rattle.rina_law.specs.Direction.{Direction}
 use Rattle.rina_queue.specs.declared.queue.Queued.{Queued}
 use Rattle.rina_data.specs.declared.link.Link.{Link}
@@ -24,6 +23,7 @@ use Rattle.rina_dif_law.specs.Upward.{IsSilent}
 use Rattle.rina_dif_law.proofs.After.{NoMore, after_none}
 use Rattle.rina_dif_law.proofs.Carrying.{carrying_same, end_was, line_was}
 use Rattle.rina_dif_law.proofs.Clouds.{NoItem, Requeued, covers_less}
+use Rattle.rina_dif_law.proofs.FarEnds.{silent_on}
 use Rattle.rina_dif_law.proofs.Finishing.{ended_carries, ended_silent, ended_stands}
 use Rattle.rina_dif_law.proofs.Numbering.{ended_numbered, none_here, numbered_at}
 use Rattle.rina_dif_law.proofs.Own.{map_at, own_covered}
@@ -117,24 +117,9 @@ pub lost_numbered : (d : DifSeen) (below : Seen) (i number : ℕ) (routes : List
 lost_numbered d below i number routes d' n s =
     let silent = lost_silent d below i number routes d' s in
     let processes' : List Process = slice_set d.processes i (without_link s.place s.link routes s.process) in
-    numbered_at d d' d.clock processes' d.ends below below s.new_is silent.later.ends silent.number n (none_here d processes' below below n (requeued_lost d.processes i s.place s.process s.link routes s.is_process) (after_none d.config below))
+    numbered_at d d' d.clock processes' d.ends below below s.new_is silent.later.ends (ap (λ (z : DifSeen). length z.ends) s.new_is) n (none_here d processes' below below n (requeued_lost d.processes i s.place s.process s.link routes s.is_process) (after_none d.config below))
 
 -- Flows fail for it
-
--- one step after the other is silent
-pub silent_on : (a b c : DifSeen) → a.clock ≤ b.clock → b.clock ≤ c.clock → IsSilent a b → IsSilent b c → IsSilent a c
-silent_on a b c le le' x y = record {
-  later = record {
-    ends = ends_on a.clock c.clock a.ends b.ends c.ends (ends_wider a.clock b.clock a.clock c.clock a.ends b.ends (omega arith) le' x.later.ends) (ends_wider b.clock c.clock a.clock c.clock b.ends c.ends le (omega arith) y.later.ends);
-    cubes = y.later.cubes ∙ x.later.cubes;
-  };
-  number = y.number ∙ x.number;
-  same = λ i e e' here there.
-      let mid = x.later.ends i e here in
-      let first = x.same i e mid.0 here mid.1 in
-      let second = y.same i mid.0 e' mid.1 there in
-      (second.0 ∙ first.0, second.1 ∙ first.1);
-}
 
 -- what holds of a DIF, and stays as an end fails, stays as all do
 module _ (P : DifSeen → Type 0) (lines : List Direction) (node : ℕ) (fail : Fail) (one : (at : ℕ) (d d' : DifSeen) → P d → IsEnded d lines at (Failed fail) d' → P d') where

@@ -144,6 +144,10 @@ numbered_with d clock processes ends below below' n later same cloud = record {
   named = cloud;
 }
 
+-- as many ends stand there as in what it is
+as_many : (d' new : DifSeen) → d' ≡ new → length d'.ends ≡ length new.ends
+as_many d' new is = ap (λ (z : DifSeen). length z.ends) is
+
 -- whatever a call is, by what it did to the ends and to the cloud
 pub numbered_at : (d d' : DifSeen) (clock : ℕ) (processes : List Process) (ends : List End) (below below' : Seen) → d' ≡ record d { clock = clock; processes = processes; ends = ends } → AreLater d.clock d'.clock d.ends d'.ends → length d'.ends ≡ length d.ends → IsNumbered d below
     → ((death : ℕ) (pdu : Pdu) → Cloud Everywhere d.config processes below' death pdu → IsFromHere d.conns pdu) → IsNumbered d' below'
@@ -260,72 +264,72 @@ goes_here refuses d lines below i m process (Err (CountSpent need left)) process
 pub outs_numbered : (refuses : Port → ℕ → Option SendError) (d : DifSeen) (lines : List Direction) (below : Seen) (i m : ℕ) (r : Result OutStep StepError) (d' : DifSeen) (below' : Seen) → AreKept below → AreKept below' → IsStanding d lines below → IsNumbered d below → Outs refuses d below i m r d' below' → IsNumbered d' below'
 outs_numbered refuses d lines below i m (Ok o) d' below' kept kept' st n s =
     let silent = outs_silent refuses d below i m (Ok o) d' below' s in
-    numbered_at d d' d.clock (slice_set d.processes i s.process') d.ends below below' s.new_is silent.later.ends silent.number n (goes_here refuses d lines below i m s.process (Ok o) s.process' below' kept kept' st n s.is_process s.done)
+    numbered_at d d' d.clock (slice_set d.processes i s.process') d.ends below below' s.new_is silent.later.ends (as_many d' _ s.new_is) n (goes_here refuses d lines below i m s.process (Ok o) s.process' below' kept kept' st n s.is_process s.done)
 outs_numbered refuses d lines below i m (Err Memory) d' below' kept kept' st n s =
     let silent = outs_silent refuses d below i m (Err Memory) d' below' s in
-    numbered_at d d' d.clock (slice_set d.processes i s.process') d.ends below below' s.new_is silent.later.ends silent.number n (goes_here refuses d lines below i m s.process (Err Memory) s.process' below' kept kept' st n s.is_process s.done)
+    numbered_at d d' d.clock (slice_set d.processes i s.process') d.ends below below' s.new_is silent.later.ends (as_many d' _ s.new_is) n (goes_here refuses d lines below i m s.process (Err Memory) s.process' below' kept kept' st n s.is_process s.done)
 outs_numbered refuses d lines below i m (Err NoIpc) d' below' kept kept' st n s = same_numbered d d' below below' s.1 s.2 n
 outs_numbered refuses d lines below i m (Err NoLink) d' below' kept kept' st n s =
     let silent = outs_silent refuses d below i m (Err NoLink) d' below' s in
-    numbered_at d d' d.clock (slice_set d.processes i s.process') d.ends below below' s.new_is silent.later.ends silent.number n (goes_here refuses d lines below i m s.process (Err NoLink) s.process' below' kept kept' st n s.is_process s.done)
+    numbered_at d d' d.clock (slice_set d.processes i s.process') d.ends below below' s.new_is silent.later.ends (as_many d' _ s.new_is) n (goes_here refuses d lines below i m s.process (Err NoLink) s.process' below' kept kept' st n s.is_process s.done)
 outs_numbered refuses d lines below i m (Err (CountSpent need left)) d' below' kept kept' st n s =
     let silent = outs_silent refuses d below i m (Err (CountSpent need left)) d' below' s in
-    numbered_at d d' d.clock (slice_set d.processes i s.process') d.ends below below' s.new_is silent.later.ends silent.number n (goes_here refuses d lines below i m s.process (Err (CountSpent need left)) s.process' below' kept kept' st n s.is_process s.done)
+    numbered_at d d' d.clock (slice_set d.processes i s.process') d.ends below below' s.new_is silent.later.ends (as_many d' _ s.new_is) n (goes_here refuses d lines below i m s.process (Err (CountSpent need left)) s.process' below' kept kept' st n s.is_process s.done)
 
 -- ---- a step that takes
 
 module _ (d : DifSeen) (lines : List Direction) (below below' : Seen) (n : IsNumbered d below) (after : IsAfter d.config NoMore below below') (i : ℕ) (member : Member) (process : Process) (is_process : slice_get d.processes i ≡ Some process) (at older : ℕ) (hop : Hop) (has : Cloud Everywhere d.config d.processes below older hop.pdu) where
-  arrived_numbered : (cause : Option Cause) (d' : DifSeen) (lines' : List Direction) → AreLater d.clock d'.clock d.ends d'.ends → length d'.ends ≡ length d.ends → IsArrived d lines i process hop.pdu cause d' lines' → IsNumbered d' below'
-  arrived_numbered cause d' lines' later number s =
+  arrived_numbered : (cause : Option Cause) (d' : DifSeen) (lines' : List Direction) → AreLater d.clock d'.clock d.ends d'.ends → IsArrived d lines i process hop.pdu cause d' lines' → IsNumbered d' below'
+  arrived_numbered cause d' lines' later s =
       let process' : Process = with_offs process (s.dropped ++ lines_for hop.pdu cause) in
-      numbered_at d d' d.clock (slice_set d.processes i process') _ below below' s.new_is later number n (none_here d (slice_set d.processes i process') below below' n (requeued_same d.processes i process process' is_process refl) after)
+      numbered_at d d' d.clock (slice_set d.processes i process') _ below below' s.new_is later (as_many d' _ s.new_is ∙ length-set d.ends s.place _) n (none_here d (slice_set d.processes i process') below below' n (requeued_same d.processes i process process' is_process refl) after)
 
-  offs_numbered : (offs : List Off) (d' : DifSeen) → AreLater d.clock d'.clock d.ends d'.ends → length d'.ends ≡ length d.ends → d' ≡ with_process d i (with_offs process offs) → IsNumbered d' below'
-  offs_numbered offs d' later number is =
+  offs_numbered : (offs : List Off) (d' : DifSeen) → AreLater d.clock d'.clock d.ends d'.ends → d' ≡ with_process d i (with_offs process offs) → IsNumbered d' below'
+  offs_numbered offs d' later is =
       let process' : Process = with_offs process offs in
-      numbered_at d d' d.clock (slice_set d.processes i process') d.ends below below' is later number n (none_here d (slice_set d.processes i process') below below' n (requeued_same d.processes i process process' is_process refl) after)
+      numbered_at d d' d.clock (slice_set d.processes i process') d.ends below below' is later (as_many d' _ is) n (none_here d (slice_set d.processes i process') below below' n (requeued_same d.processes i process process' is_process refl) after)
 
-  noted_numbered : (cause : Cause) (d' : DifSeen) → AreLater d.clock d'.clock d.ends d'.ends → length d'.ends ≡ length d.ends → d' ≡ with_process d i (with_offs process (line_for hop.pdu cause ∷ [])) → IsNumbered d' below'
-  noted_numbered cause d' later number is = offs_numbered (line_for hop.pdu cause ∷ []) d' later number is
+  noted_numbered : (cause : Cause) (d' : DifSeen) → AreLater d.clock d'.clock d.ends d'.ends → d' ≡ with_process d i (with_offs process (line_for hop.pdu cause ∷ [])) → IsNumbered d' below'
+  noted_numbered cause d' later is = offs_numbered (line_for hop.pdu cause ∷ []) d' later is
 
-  relayed_numbered : (d' : DifSeen) → AreLater d.clock d'.clock d.ends d'.ends → length d'.ends ≡ length d.ends → IsRelayed d i process at hop d' → IsNumbered d' below'
-  relayed_numbered d' later number s =
+  relayed_numbered : (d' : DifSeen) → AreLater d.clock d'.clock d.ends d'.ends → IsRelayed d i process at hop d' → IsNumbered d' below'
+  relayed_numbered d' later s =
       let p = s.passed in
       let item : Queued = record { pdu = hop.pdu; left = hop.left; since = at } in
       let put : Process = with_put process p.place p.queue (item ∷ []) in
       let is : d' ≡ with_process d i put = s.new_is ∙ ap (λ (z : Process). with_process d i z) p.new_is in
-      numbered_at d d' d.clock (slice_set d.processes i put) d.ends below below' is later number n
+      numbered_at d d' d.clock (slice_set d.processes i put) d.ends below below' is later (as_many d' _ is) n
       (put_here d i p.queue.link (item ∷ []) (slice_set d.processes i put) below below' n (requeued_put d.processes i p.place process p.queue (item ∷ []) is_process p.is_queue.is_queue) after
       (λ x one. elim one [ inl e ↦ subst (IsFromHere d.conns) (ap (λ (z : Queued). z.pdu) (sym e)) (n.named older hop.pdu has) | inr none ↦ absurd none ]))
 
-  settles_off_numbered : (cause : Cause) (d' : DifSeen) (lines' : List Direction) → AreLater d.clock d'.clock d.ends d'.ends → length d'.ends ≡ length d.ends → SettlesOff d lines i member process at hop cause d' lines' → IsNumbered d' below'
-  settles_off_numbered (causes.Expired left charge) d' lines' later number s = noted_numbered (causes.Expired left charge) d' later number s.3
-  settles_off_numbered (causes.NoRoute dst) d' lines' later number s = noted_numbered (causes.NoRoute dst) d' later number s.4
-  settles_off_numbered (causes.QueueFull cap) d' lines' later number s = noted_numbered (causes.QueueFull cap) d' later number s.4
-  settles_off_numbered (causes.NoConnection cep) d' lines' later number s = noted_numbered (causes.NoConnection cep) d' later number s.4
-  settles_off_numbered (causes.Duplicate num) d' lines' later number s = arrived_numbered (Some (causes.Duplicate num)) d' lines' later number s.2
-  settles_off_numbered (causes.Behind highest) d' lines' later number s = arrived_numbered (Some (causes.Behind highest)) d' lines' later number s.2
-  settles_off_numbered (causes.NoState drf) d' lines' later number s = arrived_numbered (Some (causes.NoState drf)) d' lines' later number s.2
-  settles_off_numbered (causes.NoRoom cap) d' lines' later number s = arrived_numbered (Some (causes.NoRoom cap)) d' lines' later number s.2
-  settles_off_numbered (causes.StateGone last_in) d' lines' later number s = arrived_numbered (Some (causes.StateGone last_in)) d' lines' later number s.2
-  settles_off_numbered (causes.Broken missing) d' lines' later number s = arrived_numbered (Some (causes.Broken missing)) d' lines' later number s.2
-  settles_off_numbered (causes.LinkDown down) d' lines' later number s = absurd s
+  settles_off_numbered : (cause : Cause) (d' : DifSeen) (lines' : List Direction) → AreLater d.clock d'.clock d.ends d'.ends → SettlesOff d lines i member process at hop cause d' lines' → IsNumbered d' below'
+  settles_off_numbered (causes.Expired left charge) d' lines' later s = noted_numbered (causes.Expired left charge) d' later s.3
+  settles_off_numbered (causes.NoRoute dst) d' lines' later s = noted_numbered (causes.NoRoute dst) d' later s.4
+  settles_off_numbered (causes.QueueFull cap) d' lines' later s = noted_numbered (causes.QueueFull cap) d' later s.4
+  settles_off_numbered (causes.NoConnection cep) d' lines' later s = noted_numbered (causes.NoConnection cep) d' later s.4
+  settles_off_numbered (causes.Duplicate num) d' lines' later s = arrived_numbered (Some (causes.Duplicate num)) d' lines' later s.2
+  settles_off_numbered (causes.Behind highest) d' lines' later s = arrived_numbered (Some (causes.Behind highest)) d' lines' later s.2
+  settles_off_numbered (causes.NoState drf) d' lines' later s = arrived_numbered (Some (causes.NoState drf)) d' lines' later s.2
+  settles_off_numbered (causes.NoRoom cap) d' lines' later s = arrived_numbered (Some (causes.NoRoom cap)) d' lines' later s.2
+  settles_off_numbered (causes.StateGone last_in) d' lines' later s = arrived_numbered (Some (causes.StateGone last_in)) d' lines' later s.2
+  settles_off_numbered (causes.Broken missing) d' lines' later s = arrived_numbered (Some (causes.Broken missing)) d' lines' later s.2
+  settles_off_numbered (causes.LinkDown down) d' lines' later s = absurd s
 
   told_numbered : (d' : DifSeen) → d' ≡ d → IsNumbered d' below'
   told_numbered d' is = subst (λ (z : DifSeen). IsNumbered z below') (sym is) (record { members = n.members; addressed = n.addressed; counted = n.counted; drawn = n.drawn; named = none_here d d.processes below below' n (requeued_none d.processes) after })
 
-  flow_numbered : (end : Took) (d' : DifSeen) (lines' : List Direction) → AreLater d.clock d'.clock d.ends d'.ends → length d'.ends ≡ length d.ends → SettlesFlow d lines i member process at hop end d' lines' → IsNumbered d' below'
-  flow_numbered took.Accepted d' lines' later number s = elim (s.2) [
-    | inl x ↦ arrived_numbered None d' lines' later number x
+  flow_numbered : (end : Took) (d' : DifSeen) (lines' : List Direction) → AreLater d.clock d'.clock d.ends d'.ends → SettlesFlow d lines i member process at hop end d' lines' → IsNumbered d' below'
+  flow_numbered took.Accepted d' lines' later s = elim (s.2) [
+    | inl x ↦ arrived_numbered None d' lines' later x
     | inr x ↦ told_numbered d' x.new_is
   ]
-  flow_numbered took.Relayed d' lines' later number s = relayed_numbered d' later number s.2
-  flow_numbered (took.Off cause) d' lines' later number s = settles_off_numbered cause d' lines' later number s
+  flow_numbered took.Relayed d' lines' later s = relayed_numbered d' later s.2
+  flow_numbered (took.Off cause) d' lines' later s = settles_off_numbered cause d' lines' later s
 
-  settles_numbered : (end : Took) (d' : DifSeen) (lines' : List Direction) → AreLater d.clock d'.clock d.ends d'.ends → length d'.ends ≡ length d.ends → Settles d lines i member process at hop end d' lines' → IsNumbered d' below'
-  settles_numbered end d' lines' later number s = elim s [
-    | inl flow ↦ flow_numbered end d' lines' later number flow.1
-    | inr link ↦ offs_numbered (link.dropped ++ lines_for hop.pdu (cause_told end)) d' later number link.new_is
+  settles_numbered : (end : Took) (d' : DifSeen) (lines' : List Direction) → AreLater d.clock d'.clock d.ends d'.ends → Settles d lines i member process at hop end d' lines' → IsNumbered d' below'
+  settles_numbered end d' lines' later s = elim s [
+    | inl flow ↦ flow_numbered end d' lines' later flow.1
+    | inr link ↦ offs_numbered (link.dropped ++ lines_for hop.pdu (cause_told end)) d' later link.new_is
   ]
 
 pub ins_numbered : (d : DifSeen) (lines : List Direction) (below : Seen) (i m : ℕ) (r : Result InStep StepError) (d' : DifSeen) (lines' : List Direction) (below' : Seen) → AreKept below → AreKept below' → IsStanding d lines below → IsNumbered d below → Ins d lines below i m r d' lines' below' → IsNumbered d' below'
@@ -335,7 +339,7 @@ ins_numbered d lines below i m (Ok (in_.Took key end)) d' lines' below' kept kep
     let later = later_passes below s.link.port below' s.passed in
     let after = after_passed d.config below s.link.port below' kept kept' later s.passed in
     let silent = ins_silent d lines below i m (Ok (in_.Took key end)) d' lines' below' st s in
-    settles_numbered d lines below below' n after i s.member s.process s.is_process.is_process s.entry.tick a.older s.hop (inr a.on_way) end d' lines' silent.later.ends silent.number s.settled
+    settles_numbered d lines below below' n after i s.member s.process s.is_process.is_process s.entry.tick a.older s.hop (inr a.on_way) end d' lines' silent.later.ends s.settled
 ins_numbered d lines below i m (Err Memory) d' lines' below' kept kept' st n s = same_numbered d d' below below' s.0 s.2 n
 ins_numbered d lines below i m (Err NoIpc) d' lines' below' kept kept' st n s = same_numbered d d' below below' s.1 s.3 n
 ins_numbered d lines below i m (Err NoLink) d' lines' below' kept kept' st n s = same_numbered d d' below below' s.1 s.3 n
@@ -371,19 +375,19 @@ pub acknowledged_numbered : (d : DifSeen) (lines : List Direction) (below : Seen
 acknowledged_numbered d lines below at cause d' lines' n s =
     let silent = acknowledged_silent d lines at cause d' lines' s in
     let here = inr (record { at = at; ids = s.ids; stands = s.is_home.is_conn.ids_are; src = refl; scep = refl }) in
-    numbered_at d d' d.clock (slice_set d.processes s.i s.process') d.ends below below s.new_is silent.later.ends silent.number n (posted_here d below s.i s.cube.mpl s.process _ cause s.process' n s.is_home.is_process here s.posted)
+    numbered_at d d' d.clock (slice_set d.processes s.i s.process') d.ends below below s.new_is silent.later.ends (as_many d' _ s.new_is) n (posted_here d below s.i s.cube.mpl s.process _ cause s.process' n s.is_home.is_process here s.posted)
 
 pub resent_numbered : (d : DifSeen) (lines : List Direction) (below : Seen) (at : ℕ) (cause : Option Cause) (d' : DifSeen) (lines' : List Direction) → IsNumbered d below → IsResent d lines at cause d' lines' → IsNumbered d' below
 resent_numbered d lines below at cause d' lines' n s =
     let silent = resent_silent d lines at cause d' lines' s in
     let here = inr (record { at = at; ids = s.ids; stands = s.is_home.is_conn.ids_are; src = refl; scep = refl }) in
-    numbered_at d d' d.clock (slice_set d.processes s.i s.process') d.ends below below s.new_is silent.later.ends silent.number n (posted_here d below s.i s.cube.mpl s.process _ cause s.process' n s.is_home.is_process here s.posted)
+    numbered_at d d' d.clock (slice_set d.processes s.i s.process') d.ends below below s.new_is silent.later.ends (as_many d' _ s.new_is) n (posted_here d below s.i s.cube.mpl s.process _ cause s.process' n s.is_home.is_process here s.posted)
 
 pub forgotten_numbered : (d : DifSeen) (lines : List Direction) (below : Seen) (at : ℕ) (d' : DifSeen) (lines' : List Direction) → IsNumbered d below → IsForgotten d lines at d' lines' → IsNumbered d' below
 forgotten_numbered d lines below at d' lines' n s =
     let silent = forgotten_silent d lines at d' lines' s in
     let process' : Process = with_offs s.process s.dropped in
-    numbered_at d d' d.clock (slice_set d.processes s.i process') d.ends below below s.new_is silent.later.ends silent.number n (none_here d (slice_set d.processes s.i process') below below n (requeued_same d.processes s.i s.process process' s.is_home.is_process refl) (after_none d.config below))
+    numbered_at d d' d.clock (slice_set d.processes s.i process') d.ends below below s.new_is silent.later.ends (as_many d' _ s.new_is) n (none_here d (slice_set d.processes s.i process') below below n (requeued_same d.processes s.i s.process process' s.is_home.is_process refl) (after_none d.config below))
 
 -- a member gives an id back
 pub rested_numbered : (d : DifSeen) (below : Seen) (at : ℕ) (e : End) (held : List CepIds) → IsNumbered d below → GivesBack d at e held → IsNumbered (record d { ids = held }) below
@@ -401,7 +405,7 @@ ended_numbered d lines below at state d' n s =
     let process' : Process = with_offs s.process s.dropped in
     let held : DifSeen = record d { ids = s.held } in
     let n' : IsNumbered held below = rested_numbered d below at s.end s.held n s.gives_back in
-    numbered_at held d' d.clock (slice_set d.processes s.i process') _ below below s.new_is silent.later.ends silent.number n' (none_here held (slice_set d.processes s.i process') below below n' (requeued_same d.processes s.i s.process process' s.is_process refl) (after_none d.config below))
+    numbered_at held d' d.clock (slice_set d.processes s.i process') _ below below s.new_is silent.later.ends (as_many d' _ s.new_is ∙ length-set d.ends at _) n' (none_here held (slice_set d.processes s.i process') below below n' (requeued_same d.processes s.i s.process process' s.is_process refl) (after_none d.config below))
 
 -- ---- the start
 
@@ -419,7 +423,7 @@ beside_numbered d below below' kept n lifted = beside_after d below below' n (af
 pub time_numbered : (d : DifSeen) (lines : List Direction) (below below' : Seen) (d' : DifSeen) (lines' : List Direction) → AreKept below' → IsNumbered d below → IsLifted d.config below below' → IsTicked d lines below'.now d' lines' → IsNumbered d' below'
 time_numbered d lines below below' d' lines' kept n lifted s =
     let silent = ticked_silent d lines below'.now d' lines' s in
-    numbered_at d d' below'.now d.processes d.ends below below' s.new_is silent.later.ends silent.number n (none_here d d.processes below below' n (requeued_none d.processes) (after_lifted d.config below below' kept lifted))
+    numbered_at d d' below'.now d.processes d.ends below below' s.new_is silent.later.ends (as_many d' _ s.new_is) n (none_here d d.processes below below' n (requeued_none d.processes) (after_lifted d.config below below' kept lifted))
 
 -- an application that is no member sent
 pub send_of_others_numbered : (d : DifSeen) (below : Seen) (port : Port) (bytes : List ℕ) (num : Num) (below' : Seen) → AreKept below → AreKept below' → IsLater below below' → IsNumbered d below → ((e : End) → end_of below port ≡ Some e → IsMine d.config.members e.app → ⊥) → IsSent below port bytes num below' → IsNumbered d below'

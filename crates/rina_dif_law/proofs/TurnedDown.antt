@@ -1,5 +1,5 @@
 -- A DIF that stands goes on to stand as an asker's end ends while it waits.
-use Rattle.std.proofs.Common.{◌≡◌, ◌≢◌, List, slice_set, ℕ, refl, sym, ◌∙◌, subst, arith}
+use Rattle.std.proofs.Common.{◌≡◌, ◌≢◌, List, length-set, slice_set, ℕ, refl, sym, ◌∙◌, subst, arith}
 use Rattle.rina_iface.specs.declared.ends.End.{End}
 use Rattle.rina_iface.specs.declared.state.PortState.{PortState}
 use Rattle.rina_iface.specs.declared.state.PortState.TheVariants.{Allocated, Pending}
@@ -83,4 +83,4 @@ down_numbers d below at state d' n s =
     let silent = restated_silent d at s.end state d.conns d.processes d.ids s.is_end (subst (λ (z : PortState). Moves z state) (sym s.waits) tt) in
     let held : DifSeen = record d { ids = s.held } in
     let n' : IsNumbered held below = rested_numbered d below at s.end s.held n s.gives_back in
-    rw s.new_is (numbered_with held d.clock d.processes (slice_set d.ends at (record s.end { state = state })) below below n' silent.later.ends silent.number n'.named)
+    rw s.new_is (numbered_with held d.clock d.processes (slice_set d.ends at (record s.end { state = state })) below below n' silent.later.ends (length-set d.ends at (record s.end { state = state })) n'.named)

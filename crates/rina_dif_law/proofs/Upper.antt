@@ -42,6 +42,7 @@ use Rattle.rina_dif_law.specs.Standing.{IsStanding}
 use Rattle.rina_dif_law.specs.Timely.{IsAcknowledged, IsForgotten, IsResent}
 use Rattle.rina_dif_law.specs.Upward.{IsSilent}
 use Rattle.rina_dif_law.specs.Cloud.{Cloud, Everywhere}
+use Rattle.rina_dif_law.proofs.FarEnds.{none_fresh}
 use Rattle.rina_dif_law.proofs.Own.{direction_in, direction_out}
 use Rattle.rina_dif_law.proofs.Forgot.{found_clock, found_got}
 
@@ -52,7 +53,7 @@ silent_same d d' ends config clock = record {
     ends = subst (λ (es : List End). (i : ℕ) (e : End) → At d.ends i e → (e' : End) × At es i e' × IsLaterEnd d.clock d'.clock e e') (sym ends) (ends_refl d.clock d'.clock d.ends);
     cubes = ap (λ (g : _). (fac_of (record d { config = g })).cubes) config;
   };
-  number = ap (λ (es : List End). length es) ends;
+  fresh = none_fresh d.ends d'.ends (ap (λ (es : List End). length es) ends);
   same = λ i e e' x y. same_end i e e' (subst (λ (es : List End). At es i e') ends y) x;
 }
   where
@@ -92,7 +93,7 @@ arrived_silent d lines below i process pdu cause d' lines' st s =
     let grows = arrived_grows k d.clock (piece_in pdu) s.line s.end flow.backed.clock flow.got in
     subst (IsSilent d) (sym s.new_is) (record {
       later = one_later d s.place s.end end' is_end (got_later d.clock s.end end'.got s.taker.allocated grows);
-      number = length-set d.ends s.place end';
+      fresh = none_fresh d.ends _ (length-set d.ends s.place end');
       same = λ j e e' x y. elim (set_at d.ends s.place j s.end end' e' is_end y) [
         | inl t ↦
             let there : At d.ends j s.end = ap (slice_get d.ends) t.0 ∙ is_end in
@@ -173,7 +174,7 @@ passed_later d lines at d' lines' s = subst (λ (x : DifSeen). IsLaterFac d.cloc
 pub ticked_silent : (d : DifSeen) (lines : List Direction) (now : ℕ) (d' : DifSeen) (lines' : List Direction) → IsTicked d lines now d' lines' → IsSilent d d'
 ticked_silent d lines now d' lines' s = subst (IsSilent d) (sym s.new_is) (record {
   later = record { ends = ends_refl d.clock now d.ends; cubes = refl };
-  number = refl;
+  fresh = none_fresh d.ends d.ends refl;
   same = λ i e e' x y. same_end i e e' y x;
 })
   where

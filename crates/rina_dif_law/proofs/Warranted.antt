@@ -2,6 +2,7 @@
 use Rattle.std.proofs.Common.{◌≡◌, ◌≢◌, ℕ, zero, suc, ◌+◌, ◌-◌, ◌*◌, ◌≤◌, List, [], ◌∷◌, ◌++◌, cond, eqb, length, map, slice_get, slice_set, Bool, true, false, Option, Some, None, Result, Ok, Err, append-nil, refl, sym, ◌∙◌, ap, subst, arith, inl, inr}
 use Rattle.std.specs.Prelude.{flat_map, position}
 use Rattle.std.proofs.lemmas.Bool.{ltb-false}
+use Rattle.std.proofs.lemmas.Bool.Decides.{eqb_tells}
 use Rattle.std.proofs.lemmas.List.Concat.{flat_map-cons}
 use Rattle.rina_account.specs.Causes.{IsUnrouted, missing_at}
 use Rattle.rina_account.specs.declared.ledger.Off.{Off}
@@ -21,9 +22,10 @@ use Rattle.rina_iface.specs.declared.error.SendError.{SendError}
 use Rattle.rina_iface.specs.declared.error.SendError.TheVariants as send
 use Rattle.rina_iface.specs.declared.state.Fail.TheVariants.{Below}
 use Rattle.rina_iface.specs.declared.state.PortState.{PortState}
-use Rattle.rina_iface.specs.declared.state.PortState.TheVariants.{Failed}
+use Rattle.rina_iface.specs.declared.state.PortState.TheVariants.{Allocated, Failed, Pending}
+use Rattle.rina_iface.specs.Later.{Moves}
 use Rattle.rina_iface.specs.Seen.{Seen, unpassed}
-use Rattle.rina_iface.proofs.Grown.{still_at}
+use Rattle.rina_iface.proofs.Changed.{slice_get-set_other}
 use Rattle.rina_law.specs.declared.entry.Entry.{Entry}
 use Rattle.rina_law.specs.Constants.{Constants}
 use Rattle.rina_law.specs.Direction.{Direction, has_room, right_of}
@@ -82,7 +84,8 @@ use Rattle.rina_dif_law.proofs.Own.{pair}
 use Rattle.rina_dif_law.proofs.Placed.{qos_from}
 use Rattle.rina_dif_law.specs.Places.{ids_from}
 use Rattle.rina_dif_law.proofs.Verdicts.{behind_old, duplicate_known, missing_same, roomless, stateless, unrouted}
-use Rattle.rina_dif_law.proofs.Writing.{IsNoted, in_append, in_one, kept_noted, line_noted, noted_as, noted_on, one_noted, ports_lost, ports_same, process_noted, quiet_noted, same_noted, still, was_lawful, writes, written_on}
+use Rattle.rina_dif_law.proofs.Ends.{same_some}
+use Rattle.rina_dif_law.proofs.Writing.{IsNoted, in_append, in_one, kept_noted, known_more, known_same, known_set, line_noted, noted_as, noted_on, one_noted, ports_lost, ports_same, process_noted, quiet_noted, same_noted, still, was_lawful, writes, written_on}
 
 -- ---- what leaves
 
@@ -234,7 +237,7 @@ arrived_noted d lines below i member process pdu cause d' lines' st is dst s =
           let may = came_may d lines below NoPort member.addr process key s.ids s.cube s.line p r known.clock (arrival_verdict c s.line.line p (has_room c s.line)) seq refl w.0 (sym w.1 ∙ s.cause_is) in
           subst (holds i) (sym w.2) (record { member = member; process = process; is_process = is; may = inl may }))
     ] in
-    subst (IsNoted holds d) (sym s.new_is) (one_noted holds d _ i process (with_offs process offs) offs is.is_process refl each (ports_same process.links process.links refl))
+    subst (IsNoted holds d) (sym s.new_is) (one_noted holds d _ i process (with_offs process offs) offs is.is_process refl each (ports_same process.links process.links refl) (known_set d.ends d.conns s.place s.end _ conn.end (λ waits. waits)))
 
 -- ---- what comes
 
@@ -357,6 +360,10 @@ forgotten_written d lines below at d' lines' st numbered w s = written_on (MayWr
 reheld_noted : (holds : ℕ → Off → Type 0) (d d' : DifSeen) (held : List CepIds) → IsNoted holds d d' → IsNoted holds d (record d' { ids = held })
 reheld_noted holds d d' held n = record { config = n.config; manage = n.manage; clock = n.clock; conns = n.conns; each = n.each }
 
+-- an allocated end never waits again
+no_wait : (old new : PortState) → old ≡ Allocated → Moves old new → new ≡ Pending → ⊥
+no_wait old new is moves waits = let clash : Pending ≡ Allocated = subst (λ (s : PortState). Moves s Pending) is (subst (Moves old) waits moves) in cc
+
 pub ended_noted : (d : DifSeen) (lines : List Direction) (below : Seen) (at : ℕ) (state : PortState) (d' : DifSeen) → IsStanding d lines below → IsNumbered d below → IsEnded d lines at state d' → IsNoted (MayWriteOff d lines below NoPort) d d'
 ended_noted d lines below at state d' st numbered s =
     let m = there d lines below s.i s.process st s.is_process in
@@ -372,7 +379,7 @@ ended_noted d lines below at state d' st numbered s =
     let r : IsReceiver d lines m.0.addr off.key s.ids known.cube l.0 = record { piece = x.0; place = at; end = s.end; is_conn = conn; allocated = s.allocated; own = own; far = x.1; cep = x.2; is_cube = known.is_cube; from = p.place; inbound = inbound } in
     let may : MayBy d lines below NoPort m.0.addr s.process off.key (causes.NoConnection s.ids.scep) = inr (s.ids, known.cube, l.0, r, (refl, x.3)) in
     record { member = m.0; process = s.process; is_process = m.1; may = inl (subst (λ (z : Cause). MayBy d lines below NoPort m.0.addr s.process off.key z) (sym x.4) may) } in
-    subst (IsNoted holds d) (sym s.new_is) (reheld_noted holds d (record d { ends = slice_set d.ends at (record s.end { state = state }); processes = slice_set d.processes s.i (with_offs s.process s.dropped) }) s.held (one_noted holds d (slice_set d.ends at (record s.end { state = state })) s.i s.process (with_offs s.process s.dropped) s.dropped s.is_process refl each (ports_same s.process.links s.process.links refl)))
+    subst (IsNoted holds d) (sym s.new_is) (reheld_noted holds d (record d { ends = slice_set d.ends at (record s.end { state = state }); processes = slice_set d.processes s.i (with_offs s.process s.dropped) }) s.held (one_noted holds d (slice_set d.ends at (record s.end { state = state })) s.i s.process (with_offs s.process s.dropped) s.dropped s.is_process refl each (ports_same s.process.links s.process.links refl) (known_set d.ends d.conns at s.end (record s.end { state = state }) conn.end (λ waits. absurd (no_wait s.end.state state s.allocated s.moves waits)))))
 
 pub ended_write : (d : DifSeen) (lines : List Direction) (below : Seen) (at : ℕ) (state : PortState) (d' : DifSeen) → IsStanding d lines below → IsNumbered d below → IsEnded d lines at state d' → Writes (MayWriteOff d lines below NoPort) d d'
 ended_write d lines below at state d' st numbered s = writes _ d d' (ended_noted d lines below at state d' st numbered s)
@@ -462,7 +469,7 @@ failed_write d lines below node port d' st numbered f = writes _ d d' (failed_no
 
 offered_noted : (holds : ℕ → Off → Type 0) (d : DifSeen) (lines : List Direction) (at : ℕ) (parts : List Part) (num : Num) (d' : DifSeen) (lines' : List Direction) → IsOffered d lines at parts num d' lines' → IsNoted holds d d'
 offered_noted holds d lines at parts num d' lines' s =
-    subst (IsNoted holds d) (sym s.new_is) (one_noted holds d _ s.i s.process (with_put s.process s.place s.queue _) [] s.is_process (sym (append-nil s.process.ledger)) (λ off none. absurd none) (ports_same s.process.links s.process.links refl))
+    subst (IsNoted holds d) (sym s.new_is) (one_noted holds d _ s.i s.process (with_put s.process s.place s.queue _) [] s.is_process (sym (append-nil s.process.ledger)) (λ off none. absurd none) (ports_same s.process.links s.process.links refl) (known_set d.ends d.conns at s.end _ s.is_conn.end (λ waits. waits)))
 
 pub offers_noted : (holds : ℕ → Off → Type 0) (d : DifSeen) (lines : List Direction) (at : ℕ) (parts : List Part) (r : Result Num SendError) (d' : DifSeen) (lines' : List Direction) → Offers d lines at parts r d' lines' → IsNoted holds d d'
 offers_noted holds d lines at parts (Ok num) d' lines' s = offered_noted holds d lines at parts num d' lines' s.2
@@ -470,22 +477,22 @@ offers_noted holds d lines at parts (Err send.Memory) d' lines' s = same_noted h
 offers_noted holds d lines at parts (Err why) d' lines' s = same_noted holds d d' s.1
 
 pub passed_noted : (holds : ℕ → Off → Type 0) (d : DifSeen) (lines : List Direction) (at : ℕ) (d' : DifSeen) (lines' : List Direction) → IsPassed d lines at d' lines' → IsNoted holds d d'
-passed_noted holds d lines at d' lines' s = subst (IsNoted holds d) (sym s.new_is) (quiet_noted holds d _ refl refl (omega arith) (λ k ids is. is) refl)
+passed_noted holds d lines at d' lines' s = subst (IsNoted holds d) (sym s.new_is) (quiet_noted holds d _ refl refl (omega arith) (known_set d.ends d.conns at s.end _ s.is_conn.end (λ waits. waits)) refl)
 
 pub bound_noted : (holds : ℕ → Off → Type 0) (d : DifSeen) (lines : List Direction) (fixed : Fixed) (d' : DifSeen) (lines' : List Direction) → IsBound d lines fixed d' lines' → IsNoted holds d d'
-bound_noted holds d lines fixed d' lines' s = subst (IsNoted holds d) (sym s.new_is) (quiet_noted holds d _ refl refl (omega arith) (λ k ids is. still_at d.conns _ k ids is) refl)
+bound_noted holds d lines fixed d' lines' s = subst (IsNoted holds d) (sym s.new_is) (quiet_noted holds d _ refl refl (omega arith) (known_more d.ends _ d.conns _) refl)
 
 pub asked_noted : (holds : ℕ → Off → Type 0) (d : DifSeen) (lines : List Direction) (ask : Asking) (d' : DifSeen) (lines' : List Direction) → IsAskedFor d lines ask d' lines' → IsNoted holds d d'
-asked_noted holds d lines ask d' lines' s = subst (IsNoted holds d) (sym s.new_is) (quiet_noted holds d _ refl refl (omega arith) (λ k ids is. still_at d.conns _ k ids is) refl)
+asked_noted holds d lines ask d' lines' s = subst (IsNoted holds d) (sym s.new_is) (quiet_noted holds d _ refl refl (omega arith) (known_more d.ends _ d.conns _) refl)
 
 pub made_noted : (holds : ℕ → Off → Type 0) (d : DifSeen) (lines : List Direction) (node at : ℕ) (d' : DifSeen) (lines' : List Direction) → IsFarMade d lines node at d' lines' → IsNoted holds d d'
-made_noted holds d lines node at d' lines' s = subst (IsNoted holds d) (sym s.new_is) (quiet_noted holds d _ refl refl (omega arith) (λ k ids is. still_at d.conns _ k ids is) refl)
+made_noted holds d lines node at d' lines' s = subst (IsNoted holds d) (sym s.new_is) (quiet_noted holds d _ refl refl (omega arith) (known_more d.ends _ d.conns _) refl)
 
 pub turned_down_noted : (holds : ℕ → Off → Type 0) (d : DifSeen) (at : ℕ) (state : PortState) (d' : DifSeen) → IsTurnedDown d at state d' → IsNoted holds d d'
-turned_down_noted holds d at state d' s = subst (IsNoted holds d) (sym s.new_is) (quiet_noted holds d _ refl refl (omega arith) (λ k ids is. is) refl)
+turned_down_noted holds d at state d' s = subst (IsNoted holds d) (sym s.new_is) (quiet_noted holds d _ refl refl (omega arith) (known_set d.ends d.conns at s.end _ s.is_end (λ waits. s.waits)) refl)
 
 pub ticked_noted : (holds : ℕ → Off → Type 0) (d : DifSeen) (lines : List Direction) (now : ℕ) (d' : DifSeen) (lines' : List Direction) → IsTicked d lines now d' lines' → IsNoted holds d d'
-ticked_noted holds d lines now d' lines' s = subst (IsNoted holds d) (sym s.new_is) (quiet_noted holds d _ refl refl s.later (λ k ids is. is) refl)
+ticked_noted holds d lines now d' lines' s = subst (IsNoted holds d) (sym s.new_is) (quiet_noted holds d _ refl refl s.later (known_same d.ends d.conns) refl)
 
 -- what the ledgers say stays true where nothing is written
 quiet_written : (d d' : DifSeen) → IsNoted Nothing d d' → AreWrittenOff d → AreWrittenOff d'
@@ -506,9 +513,20 @@ asked_written d lines ask d' lines' w s = quiet_written d d' (asked_noted Nothin
 pub ticked_written : (d : DifSeen) (lines : List Direction) (now : ℕ) (d' : DifSeen) (lines' : List Direction) → AreWrittenOff d → IsTicked d lines now d' lines' → AreWrittenOff d'
 ticked_written d lines now d' lines' w s = quiet_written d d' (ticked_noted Nothing d lines now d' lines' s) w
 
--- an answer writes nothing, though it changes the ids of a connection
+-- an answer writes nothing: it changes the ids of a connection whose end waited
+pub answered_noted : (holds : ℕ → Off → Type 0) (d : DifSeen) (at : ℕ) (d' : DifSeen) → IsAnsweredTo d at d' → IsNoted holds d d'
+answered_noted holds d at d' s = subst (IsNoted holds d) (sym s.new_is) (quiet_noted holds d _ refl refl (omega arith) (λ k e ids is told here. elim (eqb_tells k at) [
+  | inl t ↦
+      (let same : e ≡ s.asker = same_some (slice_get d.ends at) e s.asker (ap (slice_get d.ends) (sym t.1) ∙ is) s.is_conn.end in
+      absurd (told (ap (λ (z : End). z.state) same ∙ s.waits)))
+  | inr f ↦ (e, slice_get-set_other d.ends at k _ f.1 ∙ is, told, slice_get-set_other d.conns at k _ f.1 ∙ here)
+]) refl)
+
 pub answered_quiet : (d : DifSeen) (at : ℕ) (d' : DifSeen) → IsAnsweredTo d at d' → Writes Nothing d d'
-answered_quiet d at d' s = subst (Writes Nothing d) (sym s.new_is) (λ i p is. (still (Nothing i) d i p is).written)
+answered_quiet d at d' s = writes Nothing d d' (answered_noted Nothing d at d' s)
+
+pub answered_written : (d : DifSeen) (at : ℕ) (d' : DifSeen) → AreWrittenOff d → IsAnsweredTo d at d' → AreWrittenOff d'
+answered_written d at d' w s = quiet_written d d' (answered_noted Nothing d at d' s) w
 
 pub made_written : (d : DifSeen) (lines : List Direction) (node at : ℕ) (d' : DifSeen) (lines' : List Direction) → AreWrittenOff d → IsFarMade d lines node at d' lines' → AreWrittenOff d'
 made_written d lines node at d' lines' w s = quiet_written d d' (made_noted Nothing d lines node at d' lines' s) w

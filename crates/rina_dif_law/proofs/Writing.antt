@@ -13,8 +13,11 @@ use Rattle.rina_cube.specs.declared.Kind.{Kind}
 use Rattle.rina_cube.specs.declared.Kind.TheVariants.{Datagram, Loose, Reliable}
 use Rattle.rina_cube.specs.Cubes.{delta_of}
 use Rattle.rina_iface.specs.declared.ends.End.{End}
+use Rattle.rina_iface.specs.declared.state.PortState.TheVariants.{Pending}
+use Rattle.rina_iface.specs.Journal.{At}
 use Rattle.rina_iface.specs.Seen.{Seen}
 use Rattle.rina_iface.proofs.Changed.{set_at, slice_get-set_other, slice_get-set_same}
+use Rattle.rina_iface.proofs.Grown.{still_at}
 use Rattle.rina_law.specs.Direction.{Direction}
 use Rattle.rina_law.specs.Lists.{In}
 use Rattle.rina_law.specs.Receiver.{Receiver}
@@ -58,27 +61,45 @@ ports_lost links at lost is place link here =
       | inr f ↦ (link, slice_get-set_other links at place gone f.1 ∙ here, refl)
     ]
 
--- each connection stands where it stood
-abbrev pub ConnsStay : List Ids → List Ids → Type 0
-ConnsStay old new = (k : ℕ) (ids : Ids) → slice_get old k ≡ Some ids → slice_get new k ≡ Some ids
+-- each connection of an end that does not wait stands where it stood, beside an end that does not wait
+abbrev pub KnownStay : List End → List End → List Ids → List Ids → Type 0
+KnownStay ends ends' conns conns' = (k : ℕ) (e : End) (ids : Ids) → At ends k e → e.state ≢ Pending → slice_get conns k ≡ Some ids → (e' : End) × At ends' k e' × (e'.state ≢ Pending) × (slice_get conns' k ≡ Some ids)
 
-receives_on : (g : Config) (conns conns' : List Ids) (addr : ℕ) (key : Key) (cube : Cube) → ConnsStay conns conns' → Receives g conns addr key cube → Receives g conns' addr key cube
-receives_on g conns conns' addr key cube stay r = record { piece = r.piece; place = r.place; ids = r.ids; stands = stay r.place r.ids r.stands; own = r.own; far = r.far; cep = r.cep; is_cube = r.is_cube }
+pub known_same : (ends : List End) (conns : List Ids) → KnownStay ends ends conns conns
+known_same ends conns = λ k e ids is told here. (e, is, told, here)
 
-lawful_on : (g : Config) (now now' : ℕ) (conns conns' : List Ids) (addr : ℕ) (links links' : List Link) (key : Key) (cause : Cause) → now ≤ now' → ConnsStay conns conns' → PortsStay links links' → WasLawful g now conns addr links key cause → WasLawful g now' conns' addr links' key cause
-lawful_on g now now' conns conns' addr links links' key (causes.Expired left charge) le stay ports h = h
-lawful_on g now now' conns conns' addr links links' key (causes.NoRoute dst) le stay ports h = h
-lawful_on g now now' conns conns' addr links links' key (causes.QueueFull cap) le stay ports h = h
-lawful_on g now now' conns conns' addr links links' key (causes.NoConnection cep) le stay ports h = h
-lawful_on g now now' conns conns' addr links links' key (causes.Duplicate num) le stay ports h = (h.0, (h.1.0, receives_on g conns conns' addr key h.1.0 stay h.1.1, h.1.2))
-lawful_on g now now' conns conns' addr links links' key (causes.Behind highest) le stay ports h = (h.0, receives_on g conns conns' addr key h.0 stay h.1, h.2)
-lawful_on g now now' conns conns' addr links links' key (causes.NoState drf) le stay ports h = (h.0, (h.1.0, receives_on g conns conns' addr key h.1.0 stay h.1.1, h.1.2))
-lawful_on g now now' conns conns' addr links links' key (causes.NoRoom cap) le stay ports h = (h.0, receives_on g conns conns' addr key h.0 stay h.1, h.2)
-lawful_on g now now' conns conns' addr links links' key (causes.StateGone last_in) le stay ports h =
+-- as one end changes, and does not begin to wait
+pub known_set : (ends : List End) (conns : List Ids) (at : ℕ) (end end' : End) → At ends at end → (end'.state ≡ Pending → end.state ≡ Pending) → KnownStay ends (slice_set ends at end') conns conns
+known_set ends conns at end end' there still = λ k e ids is told here. elim (eqb_tells k at) [
+  | inl t ↦
+      (let same : e ≡ end = same_some (slice_get ends at) e end (ap (slice_get ends) (sym t.1) ∙ is) there in
+      (end', ap (slice_get (slice_set ends at end')) t.1 ∙ slice_get-set_same ends at end end' there, λ waits. told (ap (λ (z : End). z.state) same ∙ still waits), here))
+  | inr f ↦ (e, slice_get-set_other ends at k end' f.1 ∙ is, told, here)
+]
+
+-- and as more are added
+pub known_more : (ends more : List End) (conns others : List Ids) → KnownStay ends (ends ++ more) conns (conns ++ others)
+known_more ends more conns others = λ k e ids is told here. (e, still_at ends more k e is, told, still_at conns others k ids here)
+
+receives_on : (g : Config) (ends ends' : List End) (conns conns' : List Ids) (addr : ℕ) (key : Key) (cube : Cube) → KnownStay ends ends' conns conns' → Receives g ends conns addr key cube → Receives g ends' conns' addr key cube
+receives_on g ends ends' conns conns' addr key cube stay r =
+    let x = stay r.place r.end r.ids r.is_end r.told r.stands in
+    record { piece = r.piece; place = r.place; ids = r.ids; stands = x.3; end = x.0; is_end = x.1; told = x.2; own = r.own; far = r.far; cep = r.cep; is_cube = r.is_cube }
+
+lawful_on : (g : Config) (now now' : ℕ) (ends ends' : List End) (conns conns' : List Ids) (addr : ℕ) (links links' : List Link) (key : Key) (cause : Cause) → now ≤ now' → KnownStay ends ends' conns conns' → PortsStay links links' → WasLawful g now ends conns addr links key cause → WasLawful g now' ends' conns' addr links' key cause
+lawful_on g now now' ends ends' conns conns' addr links links' key (causes.Expired left charge) le stay ports h = h
+lawful_on g now now' ends ends' conns conns' addr links links' key (causes.NoRoute dst) le stay ports h = h
+lawful_on g now now' ends ends' conns conns' addr links links' key (causes.QueueFull cap) le stay ports h = h
+lawful_on g now now' ends ends' conns conns' addr links links' key (causes.NoConnection cep) le stay ports h = h
+lawful_on g now now' ends ends' conns conns' addr links links' key (causes.Duplicate num) le stay ports h = (h.0, (h.1.0, receives_on g ends ends' conns conns' addr key h.1.0 stay h.1.1, h.1.2))
+lawful_on g now now' ends ends' conns conns' addr links links' key (causes.Behind highest) le stay ports h = (h.0, receives_on g ends ends' conns conns' addr key h.0 stay h.1, h.2)
+lawful_on g now now' ends ends' conns conns' addr links links' key (causes.NoState drf) le stay ports h = (h.0, (h.1.0, receives_on g ends ends' conns conns' addr key h.1.0 stay h.1.1, h.1.2))
+lawful_on g now now' ends ends' conns conns' addr links links' key (causes.NoRoom cap) le stay ports h = (h.0, receives_on g ends ends' conns conns' addr key h.0 stay h.1, h.2)
+lawful_on g now now' ends ends' conns conns' addr links links' key (causes.StateGone last_in) le stay ports h =
     let gone : last_in + 2 * delta_of h.0 ≤ now = h.2 in
-    (h.0, receives_on g conns conns' addr key h.0 stay h.1, omega (arith, gone, le))
-lawful_on g now now' conns conns' addr links links' key (causes.Broken missing) le stay ports h = (h.0, (h.1.0, receives_on g conns conns' addr key h.1.0 stay h.1.1, h.1.2))
-lawful_on g now now' conns conns' addr links links' key (causes.LinkDown port) le stay ports h = (let p = ports h.place h.link h.stands in record { place = h.place; link = p.0; stands = p.1; port_is = h.port_is ∙ sym p.2 })
+    (h.0, receives_on g ends ends' conns conns' addr key h.0 stay h.1, omega (arith, gone, le))
+lawful_on g now now' ends ends' conns conns' addr links links' key (causes.Broken missing) le stay ports h = (h.0, (h.1.0, receives_on g ends ends' conns conns' addr key h.1.0 stay h.1.1, h.1.2))
+lawful_on g now now' ends ends' conns conns' addr links links' key (causes.LinkDown port) le stay ports h = (let p = ports h.place h.link h.stands in record { place = h.place; link = p.0; stands = p.1; port_is = h.port_is ∙ sym p.2 })
 
 -- a line of a link says so ever after
 link_cause_on : (manage : Cube) (now now' : ℕ) (key : Key) (cause : Cause) → now ≤ now' → IsLinkCause manage now key cause → IsLinkCause manage now' key cause
@@ -99,8 +120,8 @@ link_line_on manage now now' off le h = record { src = h.src; scep = h.scep; why
 
 -- ---- what may be written off says what is true
 
-receives : (d : DifSeen) (lines : List Direction) (addr : ℕ) (key : Key) (ids : Ids) (cube : Cube) (line : Direction) → IsReceiver d lines addr key ids cube line → Receives d.config d.conns addr key cube
-receives d lines addr key ids cube line r = record { piece = r.piece; place = r.place; ids = ids; stands = r.is_conn.ids_are; own = r.own; far = r.far; cep = r.cep; is_cube = r.is_cube }
+receives : (d : DifSeen) (lines : List Direction) (addr : ℕ) (key : Key) (ids : Ids) (cube : Cube) (line : Direction) → IsReceiver d lines addr key ids cube line → Receives d.config d.ends d.conns addr key cube
+receives d lines addr key ids cube line r = record { piece = r.piece; place = r.place; ids = ids; stands = r.is_conn.ids_are; end = r.end; is_end = r.is_conn.end; told = λ waits. absurd (let allocated = r.allocated in cc); own = r.own; far = r.far; cep = r.cep; is_cube = r.is_cube }
 
 missing_small : (last : Option ℕ) (n : ℕ) → missing_at last n < 2 ^ 32
 missing_small (Some last) n = mod_below _ (2 ^ 32) (omega arith)
@@ -112,7 +133,7 @@ known_kind Datagram rx n h same = absurd cc
 known_kind Loose rx n h same = h
 known_kind Reliable rx n h same = absurd cc
 
-may_lawful : (d : DifSeen) (lines : List Direction) (below : Seen) (down : Port → Type 0) (addr : ℕ) (process : Process) (key : Key) (cause : Cause) → MayBy d lines below down addr process key cause → WasLawful d.config d.clock d.conns addr process.links key cause
+may_lawful : (d : DifSeen) (lines : List Direction) (below : Seen) (down : Port → Type 0) (addr : ℕ) (process : Process) (key : Key) (cause : Cause) → MayBy d lines below down addr process key cause → WasLawful d.config d.clock d.ends d.conns addr process.links key cause
 may_lawful d lines below down addr process key (causes.Expired left charge) h = h.0
 may_lawful d lines below down addr process key (causes.NoRoute dst) h = h.0
 may_lawful d lines below down addr process key (causes.QueueFull cap) h = h.0
@@ -146,7 +167,7 @@ pub record IsNoted (holds : ℕ → Off → Type 0) (d d' : DifSeen) : Type 0 wh
   pub config : d'.config ≡ d.config
   pub manage : d'.manage ≡ d.manage
   pub clock : d.clock ≤ d'.clock
-  pub conns : ConnsStay d.conns d'.conns
+  pub conns : KnownStay d.ends d'.ends d.conns d'.conns
   pub each : (i : ℕ) (process' : Process) → slice_get d'.processes i ≡ Some process' → IsGrown (holds i) d i process'
 
 pub writes : (holds : ℕ → Off → Type 0) (d d' : DifSeen) → IsNoted holds d d' → Writes holds d d'
@@ -162,8 +183,8 @@ written_on holds d d' n lawful w i member process' off is stands =
       | inr new ↦ lawful i off (h.each off new) member h.process there
     ] in
     elim was [
-      | inl own ↦ inl (subst (λ (c : Config). WasLawful c d'.clock d'.conns member.addr process'.links off.key off.cause) (sym n.config)
-          (lawful_on d.config d.clock d'.clock d.conns d'.conns member.addr h.process.links process'.links off.key off.cause n.clock n.conns g.ports own))
+      | inl own ↦ inl (subst (λ (c : Config). WasLawful c d'.clock d'.ends d'.conns member.addr process'.links off.key off.cause) (sym n.config)
+          (lawful_on d.config d.clock d'.clock d.ends d'.ends d.conns d'.conns member.addr h.process.links process'.links off.key off.cause n.clock n.conns g.ports own))
       | inr link ↦ inr (subst (λ (c : Cube). IsLinkLine c d'.clock off) (sym n.manage) (link_line_on d.manage d.clock d'.clock off n.clock link))
     ]
 
@@ -175,7 +196,7 @@ still holds d i p is = record {
 }
 
 -- none writes anything
-pub quiet_noted : (holds : ℕ → Off → Type 0) (d d' : DifSeen) → d'.config ≡ d.config → d'.manage ≡ d.manage → d.clock ≤ d'.clock → ConnsStay d.conns d'.conns → d'.processes ≡ d.processes → IsNoted holds d d'
+pub quiet_noted : (holds : ℕ → Off → Type 0) (d d' : DifSeen) → d'.config ≡ d.config → d'.manage ≡ d.manage → d.clock ≤ d'.clock → KnownStay d.ends d'.ends d.conns d'.conns → d'.processes ≡ d.processes → IsNoted holds d d'
 quiet_noted holds d d' config manage clock conns same = record {
   config = config;
   manage = manage;
@@ -185,15 +206,15 @@ quiet_noted holds d d' config manage clock conns same = record {
 }
 
 pub same_noted : (holds : ℕ → Off → Type 0) (d d' : DifSeen) → d' ≡ d → IsNoted holds d d'
-same_noted holds d d' is = subst (IsNoted holds d) (sym is) (quiet_noted holds d d refl refl (omega arith) (λ k ids at. at) refl)
+same_noted holds d d' is = subst (IsNoted holds d) (sym is) (quiet_noted holds d d refl refl (omega arith) (known_same d.ends d.conns) refl)
 
 -- one does
-pub one_noted : (holds : ℕ → Off → Type 0) (d : DifSeen) (ends' : List End) (i : ℕ) (p new : Process) (offs : List Off) → slice_get d.processes i ≡ Some p → new.ledger ≡ p.ledger ++ offs → ((off : Off) → In off offs → holds i off) → PortsStay p.links new.links → IsNoted holds d (record d { ends = ends'; processes = slice_set d.processes i new })
-one_noted holds d ends' i p new offs is ledger each ports = record {
+pub one_noted : (holds : ℕ → Off → Type 0) (d : DifSeen) (ends' : List End) (i : ℕ) (p new : Process) (offs : List Off) → slice_get d.processes i ≡ Some p → new.ledger ≡ p.ledger ++ offs → ((off : Off) → In off offs → holds i off) → PortsStay p.links new.links → KnownStay d.ends ends' d.conns d.conns → IsNoted holds d (record d { ends = ends'; processes = slice_set d.processes i new })
+one_noted holds d ends' i p new offs is ledger each ports known = record {
   config = refl;
   manage = refl;
   clock = omega arith;
-  conns = λ k ids at. at;
+  conns = known;
   each = λ j q at. elim (set_at d.processes i j p new q is at) [
     | inl t ↦
         (let grown : IsGrown (holds i) d i new = record { written = record { process = p; is_process = is; offs = offs; ledger = ledger; each = each }; ports = ports } in
@@ -203,7 +224,7 @@ one_noted holds d ends' i p new offs is ledger each ports = record {
 }
 
 pub process_noted : (holds : ℕ → Off → Type 0) (d d' : DifSeen) (i : ℕ) (p new : Process) (offs : List Off) → d' ≡ with_process d i new → slice_get d.processes i ≡ Some p → new.ledger ≡ p.ledger ++ offs → ((off : Off) → In off offs → holds i off) → PortsStay p.links new.links → IsNoted holds d d'
-process_noted holds d d' i p new offs new_is is ledger each ports = subst (IsNoted holds d) (sym new_is) (one_noted holds d d.ends i p new offs is ledger each ports)
+process_noted holds d d' i p new offs new_is is ledger each ports = subst (IsNoted holds d) (sym new_is) (one_noted holds d d.ends i p new offs is ledger each ports (known_same d.ends d.conns))
 
 -- nothing
 pub kept_noted : (holds : ℕ → Off → Type 0) (d d' : DifSeen) (i : ℕ) (p new : Process) → d' ≡ with_process d i new → slice_get d.processes i ≡ Some p → new.ledger ≡ p.ledger → new.links ≡ p.links → IsNoted holds d d'
@@ -232,7 +253,9 @@ noted_on holds a b c x y = record {
   config = y.config ∙ x.config;
   manage = y.manage ∙ x.manage;
   clock = (let le = x.clock in let more = y.clock in omega (arith, le, more));
-  conns = λ k ids is. y.conns k ids (x.conns k ids is);
+  conns = λ k e ids is told here.
+      let w = x.conns k e ids is told here in
+      y.conns k w.0 ids w.1 w.2 w.3;
   each = λ i p is.
       let g = y.each i p is in
       let h = g.written in

@@ -32,6 +32,9 @@ FarMakingNumbers = (d : DifSeen) (lines : List Direction) (below : Seen) (node a
 abbrev pub FarMakingIsLater : Type 0
 FarMakingIsLater = (d : DifSeen) (lines : List Direction) (node at : ℕ) (d' : DifSeen) (lines' : List Direction) → IsFarMade d lines node at d' lines' → IsLaterFac d.clock d'.clock (fac_of d) (fac_of d')
 
+abbrev pub FarMakingIsSilent : Type 0
+FarMakingIsSilent = (d : DifSeen) (lines : List Direction) (node at : ℕ) (d' : DifSeen) (lines' : List Direction) → IsFarMade d lines node at d' lines' → IsSilent d d'
+
 abbrev pub FarMakingAccounts : Type 0
 FarMakingAccounts = (d : DifSeen) (lines : List Direction) (below : Seen) (node at : ℕ) (d' : DifSeen) (lines' : List Direction) →
     IsStanding d lines below → IsNumbered d below → IsAccounted d lines below → IsFarMade d lines node at d' lines' → IsAccounted d' lines' below

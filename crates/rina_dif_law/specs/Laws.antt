@@ -1,6 +1,6 @@
 -- The laws of one DIF over any facility. Each speaks of plain records: the DIF before and after a call, the directions
 -- that stand behind its flows, and the rank below.
-use Rattle.std.specs.Prelude.{◌≡◌, ℕ, List, Some, Option, Result, Ok, slice_get}
+use Rattle.std.specs.Prelude.{◌≡◌, ℕ, ◌≤◌, List, Some, Option, Result, Ok, slice_get}
 use Rattle.rina_base.specs.declared.cause.Cause.{Cause}
 use Rattle.rina_base.specs.declared.number.Num.{Num}
 use Rattle.rina_base.specs.declared.number.Port.{Port}
@@ -225,6 +225,10 @@ LosingIsSilent = (d : DifSeen) (below : Seen) (i number : ℕ) (routes : List Ro
 
 abbrev pub FailingIsSilent : Type 0
 FailingIsSilent = (d : DifSeen) (lines : List Direction) (node : ℕ) (port : Port) (d' : DifSeen) → FailAll lines node port d d' → IsSilent d d'
+
+-- two steps, one after the other
+abbrev pub SilentOn : Type 0
+SilentOn = (d d' d'' : DifSeen) → d.clock ≤ d'.clock → d'.clock ≤ d''.clock → IsSilent d d' → IsSilent d' d'' → IsSilent d d''
 
 -- a send and a pass are those of every facility, at the rank that shows the DIF
 

@@ -2,9 +2,9 @@
 //! A DIF stands on the rank below where delta-t's law holds of each of its flows, whatever is queued, sent, relayed,
 //! lost, repeated or delayed. Of the rank below they use the laws of a facility, and of its cubes that each SDU that
 //! came was sent, and came in time.
-ghost use Rattle.rina_dif_law.specs.AnsweringLaws.{AnsweringCarries, AnsweringIsSilent, AnsweringNumbers, AnsweringStands, FarMakingCarries, FarMakingIsLater, FarMakingNumbers, FarMakingStands, TurningDownCarries, TurningDownIsSilent, TurningDownNumbers, TurningDownStands};
+ghost use Rattle.rina_dif_law.specs.AnsweringLaws.{AnsweringCarries, AnsweringIsSilent, AnsweringNumbers, AnsweringStands, FarMakingCarries, FarMakingIsLater, FarMakingIsSilent, FarMakingNumbers, FarMakingStands, TurningDownCarries, TurningDownIsSilent, TurningDownNumbers, TurningDownStands};
 ghost use Rattle.rina_dif_law.specs.Partners.{EachIsMet};
-ghost use Rattle.rina_dif_law.specs.Laws.{StartStands, SendsStand, PassesStand, OutStepsStand, InStepsStand, AcknowledgingStands, ResendingStands, ForgettingStands, EndingStands, LosingStands, FailingStands, StartCarries, SendsCarry, PassesCarry, OutStepsCarry, InStepsCarry, AcknowledgingCarries, ResendingCarries, ForgettingCarries, EndingCarries, LosingCarries, FailingCarries, TimeCarries, BesideCarries, SendsOfOthersCarry, PassesOfOthersCarry, TimeStands, BesideStands, SendsOfOthersStand, OutStepsOfOthersStand, InStepsOfOthersStand, CloudIsCovered, CloudLaw, StandingKeeps, SendsAreLater, PassesAreLater, OutStepsAreSilent, InStepsAreSilent, AcknowledgingIsSilent, ResendingIsSilent, ForgettingIsSilent, EndingIsSilent, LosingIsSilent, FailingIsSilent, TimeIsSilent, SendsAreSends, PassesArePasses, RelayingSettles, WritingOffSettles, StandingCanGo};
+ghost use Rattle.rina_dif_law.specs.Laws.{StartStands, SendsStand, PassesStand, OutStepsStand, InStepsStand, AcknowledgingStands, ResendingStands, ForgettingStands, EndingStands, LosingStands, FailingStands, StartCarries, SendsCarry, PassesCarry, OutStepsCarry, InStepsCarry, AcknowledgingCarries, ResendingCarries, ForgettingCarries, EndingCarries, LosingCarries, FailingCarries, TimeCarries, BesideCarries, SendsOfOthersCarry, PassesOfOthersCarry, TimeStands, BesideStands, SendsOfOthersStand, OutStepsOfOthersStand, InStepsOfOthersStand, CloudIsCovered, CloudLaw, StandingKeeps, SendsAreLater, PassesAreLater, OutStepsAreSilent, InStepsAreSilent, AcknowledgingIsSilent, ResendingIsSilent, ForgettingIsSilent, EndingIsSilent, LosingIsSilent, FailingIsSilent, TimeIsSilent, SilentOn, SendsAreSends, PassesArePasses, RelayingSettles, WritingOffSettles, StandingCanGo};
 ghost use Rattle.rina_dif_law.specs.Lawful.{StandingIsLawful};
 ghost use Rattle.rina_dif_law.specs.NumberLaws.{SendsNumber, PassesNumber, OutStepsNumber, InStepsNumber, AcknowledgingNumbers, ResendingNumbers, ForgettingNumbers, EndingNumbers, LosingNumbers, FailingNumbers, TimeNumbers, BesideNumbers, SendsOfOthersNumber, BindingStands, BindingCarries, BindingNumbers, BindingIsLater, AskingStands, AskingCarries, AskingNumbers, AskingIsLater};
 
@@ -77,7 +77,8 @@ pub fn what_stands_is_a_facility()
     ensures { StandingKeeps }
 {}
 
-/// What the rank above sees: a call makes the journal later, and a step of the DIF sends and passes nothing there.
+/// What the rank above sees: a call makes the journal later, and a step of the DIF sends and passes nothing there. What holds of two
+/// steps holds of both together.
 pub fn calls_are_later()
     ensures send { SendsAreLater }
     ensures pass { PassesAreLater }
@@ -90,6 +91,7 @@ pub fn calls_are_later()
     ensures lose { LosingIsSilent }
     ensures fail { FailingIsSilent }
     ensures time { TimeIsSilent }
+    ensures both { SilentOn }
 {}
 
 /// At a rank that shows the DIF as one of its facilities, a send and a pass are what they are on every facility: with
@@ -147,12 +149,13 @@ pub fn flows_may_be_asked_for()
 {}
 
 /// A DIF goes on to stand as a member makes the far end of a flow that was asked for there, whose asker waits or has ended since: while
-/// the ask is younger than its ids rest, nothing that may still come is of the new connection.
+/// the ask is younger than its ids rest, nothing that may still come is of the new connection. No other end changes.
 pub fn far_ends_may_be_made()
     ensures stands { FarMakingStands }
     ensures carries { FarMakingCarries }
     ensures numbers { FarMakingNumbers }
     ensures later { FarMakingIsLater }
+    ensures silent { FarMakingIsSilent }
 {}
 
 /// A DIF goes on to stand as the answer comes to an asker that waits: its end is allocated, and knows the CEP-id of the far end. No

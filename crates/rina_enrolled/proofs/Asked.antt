@@ -16,7 +16,7 @@ use Rattle.rina_agent.specs.Enrolled.{done}
 use Rattle.rina_agent.specs.Enrolments.{is_numbered}
 use Rattle.rina_agent.specs.Items.{made}
 use Rattle.rina_agent.specs.Rows.{handled, joined_link, joining, was_up}
-use Rattle.rina_flood.specs.Network.{Side, other, EndState, Unmade, There, Gone, Network, link_at, waiting_at, put_agent, put_ends, put_sent, put_state, unhandled, with_message, with_state, IsFree, IsNewNumber, Row, Make, Put, Take, Handle, Lose, Leave, Drop, Enrol, Claim, Know, Pass, happens, May, IsRun, after_rows, IsStart, is_enrolled}
+use Rattle.rina_flood.specs.Network.{Side, other, EndState, Unmade, There, Gone, Network, link_at, waiting_at, put_agent, put_ends, put_sent, put_state, unhandled, with_invoke, with_message, with_state, IsFree, IsNewNumber, Row, Make, Put, Draw, Take, Handle, Lose, Leave, Drop, Enrol, Claim, Know, Pass, happens, May, IsRun, after_rows, IsStart, is_enrolled}
 use Rattle.rina_flood.proofs.All.{no_messages, row_holds}
 use Rattle.rina_flood.proofs.Calls.{at_itself, at_place}
 use Rattle.rina_flood.proofs.Holds.{Holds}
@@ -24,7 +24,7 @@ use Rattle.rina_flood.proofs.Known.{knower, knower_agenda, knower_links}
 use Rattle.rina_flood.proofs.Places.{direction_case, other_back, put_case, same_direction}
 use Rattle.rina_flood.proofs.States.{ends_here, ends_other, put_here, put_other}
 use Rattle.rina_enrolled.specs.Enrolled.{LosesNone, AllLoseNone}
-use Rattle.rina_enrolled.proofs.Ends.{calls_at, claim_step, connect_calls, connect_starts, connect_stops, lose_step, message_step, stops_at}
+use Rattle.rina_enrolled.proofs.Ends.{calls_at, claim_step, connect_calls, connect_starts, connect_stops, lose_step, invoke_step, message_step, stops_at}
 use Rattle.rina_enrolled.proofs.Marks.{start_near, starts, stops, starts_both, stops_both}
 use Rattle.rina_enrolled.proofs.Steps.{IsStep, handled_step, made_step, unless_step}
 use Rattle.rina_enrolled.proofs.Taken.{take_unhandled}
@@ -253,7 +253,8 @@ module _ (l : ℕ) (d : Side) where
 
   row_asks : (n : Network) (row : Row) → Holds n → May n row → LosesNone l row → AsksOnce n → AsksOnce (happens n row)
   row_asks n (Make i key value) h may none once = alone_asks n i _ (unless_step (spent 1 (n.agents i).last_count) (n.agents i) (made None (n.agents i) n.now key value) 0 0 (made_step None (n.agents i) n.now key value 0 0)) once
-  row_asks n (Put link side number m) h may none once = alone_asks n (n.ends link side) (with_message (n.agents (n.ends link side)) number m) (message_step (n.agents (n.ends link side)) number m 0 0) once
+  row_asks n (Put i number m) h may none once = alone_asks n i (with_message (n.agents i) number m) (message_step (n.agents i) number m 0 0) once
+  row_asks n (Draw i) h may none once = alone_asks n i (with_invoke (n.agents i)) (invoke_step (n.agents i) 0 0) once
   row_asks n (Take link side number m) h may none once = take_asks n link side number m h may once
   row_asks n (Handle link side number (ToNeighbour m) rest) h may none once = handle_asks n link side number m rest h may.0 may.1 once
   row_asks n (Handle link side number (ToMember m) rest) h may none once = pop_asks n link side (ToMember m) rest may.1 once

@@ -20,7 +20,7 @@ use Rattle.rina_agent.specs.Items.{own_item, stated}
 use Rattle.rina_agent.specs.Neighbours.{link_key, link_state}
 use Rattle.rina_agent.specs.Rows.{dropped, joined_link, joining, joining_link}
 use Rattle.rina_agent.proofs.Taking.{taken_keeps}
-use Rattle.rina_flood.specs.Network.{EndState, Unmade, There, Gone, link_at, waiting_at, AreApart, with_message}
+use Rattle.rina_flood.specs.Network.{EndState, Unmade, There, Gone, link_at, waiting_at, AreApart, with_invoke, with_message}
 use Rattle.rina_flood.proofs.Messages.{lost_link, lost_waits, spared_link, spared_wait, without_number}
 use Rattle.rina_enrolled.proofs.Marks.{starts, stops, starts_more, stops_more, Leads, leads_front, none_leads, none_calm, more_calm, IsCalm}
 use Rattle.rina_enrolled.proofs.Steps.{IsStep, calm_step, put_leads, next_step, same_step, stated_step, zero_at}
@@ -32,6 +32,15 @@ pub message_step : (a : Agent) (number : ℕ) (m : FlowMessage) (k s : ℕ) → 
 message_step a number m k s =
     let w : Waiting = record { link = number; message = ToMember m } in
     calm_step a (with_message a number m) k s (w ∷ []) refl (more_calm w [] refl refl none_calm) (λ j. omega arith)
+
+-- An invoke id is drawn
+
+-- no message waits more
+none_more : (agenda : List Waiting) → agenda ≡ agenda ++ []
+none_more agenda = sym (append-nil agenda)
+
+pub invoke_step : (a : Agent) (k s : ℕ) → IsStep a (with_invoke a) k s
+invoke_step a k s = calm_step a (with_invoke a) k s [] (none_more a.agenda) none_calm (λ j. omega arith)
 
 -- A link is lost
 

@@ -18,7 +18,7 @@ use Rattle.rina_agent.specs.Items.{made}
 use Rattle.rina_agent.specs.Rows.{handled, joined_link, joining, was_up}
 use Rattle.rina_agent.proofs.Keeping.{events_keep, handled_is_kept}
 use Rattle.rina_agent.proofs.Taking.{taken_keeps}
-use Rattle.rina_flood.specs.Network.{Side, other, EndState, Unmade, There, Gone, Network, waiting_at, put_agent, put_ends, put_sent, put_state, unhandled, carried, item_in, with_message, IsFree, Row, Make, Put, Take, Handle, Lose, Leave, Drop, Enrol, Claim, Know, Pass, happens, May, IsRun, after_rows, is_enrolled}
+use Rattle.rina_flood.specs.Network.{Side, other, EndState, Unmade, There, Gone, Network, waiting_at, put_agent, put_ends, put_sent, put_state, unhandled, carried, item_in, with_invoke, with_message, IsFree, Row, Make, Put, Draw, Take, Handle, Lose, Leave, Drop, Enrol, Claim, Know, Pass, happens, May, IsRun, after_rows, is_enrolled}
 use Rattle.rina_flood.specs.Laws.{IsComing}
 use Rattle.rina_flood.proofs.All.{row_holds}
 use Rattle.rina_flood.proofs.Calls.{at_place}
@@ -28,7 +28,7 @@ use Rattle.rina_flood.proofs.Known.{knower, knower_agenda}
 use Rattle.rina_flood.proofs.Places.{direction_case, in_one, nothing_in, other_back, put_case, same_direction}
 use Rattle.rina_flood.proofs.States.{ends_other, put_other}
 use Rattle.rina_enrolled.specs.Enrolled.{LosesNone, AllLoseNone}
-use Rattle.rina_enrolled.proofs.Ends.{claim_step, connect_leads, leads_at, lose_step, message_step}
+use Rattle.rina_enrolled.proofs.Ends.{claim_step, connect_leads, leads_at, lose_step, invoke_step, message_step}
 use Rattle.rina_enrolled.proofs.Marks.{start_near, Leads, leads_front}
 use Rattle.rina_enrolled.proofs.Steps.{IsStep, handled_step, made_step, unless_step}
 use Rattle.rina_enrolled.proofs.Taken.{take_unhandled}
@@ -44,7 +44,8 @@ known_keeps false y a x h = h
 
 pub row_keeps : (x : Item) (n : Network) (row : Row) (j : ℕ) → IsAtLeast (n.agents j).items x → IsAtLeast ((happens n row).agents j).items x
 row_keeps x n (Make i key value) j h = event_keeps x n i (Makes n.now key value) j h
-row_keeps x n (Put link side number m) j h = at_place (λ a c. IsAtLeast a.items x → IsAtLeast c.items x) (n.ends link side) (with_message (n.agents (n.ends link side)) number m) n.agents j (λ e. e) (λ a e. e) h
+row_keeps x n (Put i number m) j h = at_place (λ a c. IsAtLeast a.items x → IsAtLeast c.items x) i (with_message (n.agents i) number m) n.agents j (λ e. e) (λ a e. e) h
+row_keeps x n (Draw i) j h = at_place (λ a c. IsAtLeast a.items x → IsAtLeast c.items x) i (with_invoke (n.agents i)) n.agents j (λ e. e) (λ a e. e) h
 row_keeps x n (Take link side number m) j h = event_keeps x n (n.ends link side) (Takes number) j h
 row_keeps x n (Handle link side number (ToNeighbour m) rest) j h = event_keeps x n (n.ends link (other side)) (Handles n.now number m) j h
 row_keeps x n (Handle link side number (ToMember m) rest) j h = h
@@ -210,8 +211,9 @@ module _ (l : ℕ) (d : Side) (x : Item) where
   row_led : (n : Network) (row : Row) → Holds n → May n row → LosesNone l row → IsLed n → IsLed (happens n row)
   row_led n (Make i key value) h may none s = led_by n (Make i key value) (λ t. refl) s.made
       (λ e. inr (called_leads n i _ 0 0 (n.sent l (other d)) (unless_step (spent 1 (n.agents i).last_count) (n.agents i) (made None (n.agents i) n.now key value) 0 0 (made_step None (n.agents i) n.now key value 0 0)) s e)) s
-  row_led n (Put link side number m) h may none s = led_by n (Put link side number m) (λ t. refl) s.made
-      (λ e. inr (called_leads n (n.ends link side) (with_message (n.agents (n.ends link side)) number m) 0 0 (n.sent l (other d)) (message_step (n.agents (n.ends link side)) number m 0 0) s e)) s
+  row_led n (Put i number m) h may none s = led_by n (Put i number m) (λ t. refl) s.made
+      (λ e. inr (called_leads n i (with_message (n.agents i) number m) 0 0 (n.sent l (other d)) (message_step (n.agents i) number m 0 0) s e)) s
+  row_led n (Draw i) h may none s = led_by n (Draw i) (λ t. refl) s.made (λ e. inr (called_leads n i (with_invoke (n.agents i)) 0 0 (n.sent l (other d)) (invoke_step (n.agents i) 0 0) s e)) s
   row_led n (Take link side number m) h may none s = led_by n (Take link side number m) (λ t. refl) s.made
       (λ e. (let P : List ManagementMessage → Type 0 = λ ms. Leads x ms in inr (subst P (sym (take_unhandled n link side number m h.laid.laid may.0 may.1 l (other d))) e))) s
   row_led n (Handle link side number (ToNeighbour m) rest) h may none s = led_by n (Handle link side number (ToNeighbour m) rest) (λ t. refl) s.made (handle_leads n link side number m rest may.1 s) s

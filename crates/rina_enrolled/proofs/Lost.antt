@@ -17,7 +17,7 @@ use Rattle.rina_agent.specs.Enrolled.{done}
 use Rattle.rina_agent.specs.Enrolments.{is_numbered}
 use Rattle.rina_agent.specs.Items.{made, stated}
 use Rattle.rina_agent.specs.Rows.{dropped, joined_link, joining, joining_link, was_up}
-use Rattle.rina_flood.specs.Network.{Side, Near, Far, other, EndState, Unmade, There, Gone, Network, has_link, has_lost, is_lost, item_in, link_at, with_state, put_agent, put_sent, Row, Make, Put, Take, Handle, Lose, Leave, Drop, Enrol, Claim, Know, Pass, happens, May, IsRun, after_rows, is_enrolled}
+use Rattle.rina_flood.specs.Network.{Side, Near, Far, other, EndState, Unmade, There, Gone, Network, has_link, has_lost, is_lost, item_in, link_at, with_state, put_agent, put_sent, Row, Make, Put, Draw, Take, Handle, Lose, Leave, Drop, Enrol, Claim, Know, Pass, happens, May, IsRun, after_rows, is_enrolled}
 use Rattle.rina_flood.proofs.All.{near_keeps, row_holds}
 use Rattle.rina_flood.proofs.Calls.{at_place}
 use Rattle.rina_flood.proofs.Holds.{Holds}
@@ -134,7 +134,8 @@ module _ (l : ℕ) (d : Side) where
 
   row_lost : (n : Network) (row : Row) → Holds n → May n row → IsLost n → IsLost (happens n row)
   row_lost n (Make i key value) h may s = still_lost n (happens n (Make i key value)) refl refl (λ number t. one_none (n.ends l d) number n.agents i _ (made_none (spent 1 (n.agents i).last_count) (n.agents i) (made None (n.agents i) n.now key value) number refl)) s
-  row_lost n (Put link side k m) h may s = still_lost n (happens n (Put link side k m)) refl refl (λ number t. one_none (n.ends l d) number n.agents (n.ends link side) _ (λ e. e)) s
+  row_lost n (Put i k m) h may s = still_lost n (happens n (Put i k m)) refl refl (λ number t. one_none (n.ends l d) number n.agents i _ (λ e. e)) s
+  row_lost n (Draw i) h may s = still_lost n (happens n (Draw i)) refl refl (λ number t. one_none (n.ends l d) number n.agents i _ (λ e. e)) s
   row_lost n (Take link side k m) h may s = still_lost n (happens n (Take link side k m)) refl refl (λ number t. one_none (n.ends l d) number n.agents (n.ends link side) _ (λ e. e)) s
   row_lost n (Handle link side k (ToNeighbour m) rest) h may s = still_lost n (happens n (Handle link side k (ToNeighbour m) rest)) refl refl (λ number t. handle_none (n.ends l d) number n link side k m rest h) s
   row_lost n (Handle link side k (ToMember m) rest) h may s = still_lost n (happens n (Handle link side k (ToMember m) rest)) refl refl (λ number t g. g) s
@@ -191,7 +192,8 @@ lost_where n l e = elim (cases_Bool (is_lost n l Near)) [
 
 row_loses_none : (n : Network) (row : Row) (rows : List Row) (l : ℕ) → Holds n → May n row → IsRun (happens n row) rows → has_link (after_rows (happens n row) rows) l Near ≡ true → has_link (after_rows (happens n row) rows) l Far ≡ true → LosesNone l row
 row_loses_none n (Make i key value) rows l h may run near far = tt
-row_loses_none n (Put link side k m) rows l h may run near far = tt
+row_loses_none n (Put i k m) rows l h may run near far = tt
+row_loses_none n (Draw i) rows l h may run near far = tt
 row_loses_none n (Take link side k m) rows l h may run near far = tt
 row_loses_none n (Handle link side k m rest) rows l h may run near far = tt
 row_loses_none n (Lose link side k) rows l h may run near far = tt

@@ -22,7 +22,7 @@ use Rattle.rina_agent.specs.Enrolled.{done}
 use Rattle.rina_agent.specs.Enrolments.{hears, is_numbered, place_of}
 use Rattle.rina_agent.specs.Items.{made, stated}
 use Rattle.rina_agent.specs.Rows.{denial, dropped, either, entered, handled, introduced_in, joined_link, joining, joining_link, need_in, peer_by, started, started_as, started_by, stopped_as, stopped_by, up_link, was_up}
-use Rattle.rina_flood.specs.Network.{Side, other, EndState, Unmade, There, Gone, Network, is_up, link_at, with_message, put_agent, put_sent, put_state, put_ends, with_state, AreApart, Row, Make, Put, Take, Handle, Lose, Leave, Drop, Enrol, Claim, Know, Pass, happens, May, IsRun, after_rows}
+use Rattle.rina_flood.specs.Network.{Side, other, EndState, Unmade, There, Gone, Network, is_up, link_at, with_invoke, with_message, put_agent, put_sent, put_state, put_ends, with_state, AreApart, Row, Make, Put, Draw, Take, Handle, Lose, Leave, Drop, Enrol, Claim, Know, Pass, happens, May, IsRun, after_rows}
 use Rattle.rina_flood.proofs.Agendas.{lost_fewer}
 use Rattle.rina_flood.proofs.All.{row_holds}
 use Rattle.rina_flood.proofs.Calls.{at_place, at_state}
@@ -218,7 +218,8 @@ claimed_ahead n link side k may s =
 
 row_ahead : (n : Network) (row : Row) → Holds n → May n row → IsAhead n → IsAhead (happens n row)
 row_ahead n (Make i key value) h may s = called_ahead n i (done (n.agents i) (unless (spent 1 (n.agents i).last_count) (made None (n.agents i) n.now key value))) _ _ n.sent (made_none_up (spent 1 (n.agents i).last_count) (n.agents i) n.now key value) s.unsent s
-row_ahead n (Put link side number m) h may s = called_ahead n (n.ends link side) (with_message (n.agents (n.ends link side)) number m) n.made n.offered n.sent (λ j u. u) s.unsent s
+row_ahead n (Put i number m) h may s = called_ahead n i (with_message (n.agents i) number m) n.made n.offered n.sent (λ j u. u) s.unsent s
+row_ahead n (Draw i) h may s = called_ahead n i (with_invoke (n.agents i)) n.made n.offered n.sent (λ j u. u) s.unsent s
 row_ahead n (Take link side number m) h may s = called_ahead n (n.ends link side) (record (n.agents (n.ends link side)) { agenda = without_first number (n.agents (n.ends link side)).agenda }) _ _ (put_sent link side (n.sent link side ++ m ∷ []) n.sent) (λ j u. u) (taken_unsent n link side number (n.sent link side ++ m ∷ []) may.0 s) s
 row_ahead n (Handle link side number (ToNeighbour m) rest) h may s = record {
   unsent = popped_unsent n link side (ToNeighbour m) rest may.1 s;

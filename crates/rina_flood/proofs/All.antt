@@ -15,7 +15,7 @@ use Rattle.rina_agent.specs.Counts.{next_of, spent}
 use Rattle.rina_agent.specs.Enrolled.{Handles}
 use Rattle.rina_agent.specs.Enrolments.{hears, is_numbered}
 use Rattle.rina_agent.specs.Rows.{denial, was_up}
-use Rattle.rina_flood.specs.Network.{Side, other, EndState, Unmade, There, Gone, Network, waiting_at, put_agent, put_sent, unhandled, carried, on_way, Row, Make, Put, Take, Handle, Lose, Leave, Drop, Know, Pass, happens, May, IsRun, after_rows, IsStart, with_message, item_in, called, Enrol, Claim, KnowsAll, KnowsNothing}
+use Rattle.rina_flood.specs.Network.{Side, other, EndState, Unmade, There, Gone, Network, waiting_at, put_agent, put_sent, unhandled, carried, on_way, Row, Make, Put, Draw, Take, Handle, Lose, Leave, Drop, Know, Pass, happens, May, IsRun, after_rows, IsStart, with_invoke, with_message, item_in, called, Enrol, Claim, KnowsAll, KnowsNothing}
 use Rattle.rina_flood.proofs.Flow.{key_same, itself_least}
 use Rattle.rina_flood.proofs.Holds.{Holds}
 use Rattle.rina_flood.proofs.Places.{nothing_in}
@@ -25,7 +25,7 @@ use Rattle.rina_flood.proofs.Entering.{holds_kept, start_keeps}
 use Rattle.rina_flood.proofs.Keeping.{IsKept}
 use Rattle.rina_flood.proofs.Known.{know_holds}
 use Rattle.rina_flood.proofs.NewLinks.{enrol_holds, claim_holds}
-use Rattle.rina_flood.proofs.Runs.{lose_by, moving_holds, put_moving, take_holds, left_moving, passed_moving, pass_holds}
+use Rattle.rina_flood.proofs.Runs.{draw_moving, lose_by, moving_holds, put_moving, take_holds, left_moving, passed_moving, pass_holds}
 use Rattle.rina_flood.proofs.States.{close_holds}
 use Rattle.rina_flood.proofs.Stopping.{stop_keeps}
 
@@ -86,7 +86,8 @@ handle_holds n link side number (ToMember m) rest h there first = popped_holds n
 
 pub row_holds : (n : Network) (row : Row) → Holds n → May n row → Holds (happens n row)
 row_holds n (Make i key value) h may = make_holds n i key value h may
-row_holds n (Put link side number m) h may = moving_holds n (put_agent (n.ends link side) (with_message (n.agents (n.ends link side)) number m) n.agents) n.sent (put_moving n link side number m) h
+row_holds n (Put i number m) h may = moving_holds n (put_agent i (with_message (n.agents i) number m) n.agents) n.sent (put_moving n i number m) h
+row_holds n (Draw i) h may = moving_holds n (put_agent i (with_invoke (n.agents i)) n.agents) n.sent (draw_moving n i) h
 row_holds n (Take link side number m) h may = take_holds n link side number m h may.0 may.1
 row_holds n (Handle link side number m rest) h may = handle_holds n link side number m rest h may.0 may.1
 row_holds n (Lose link side number) h may = lose_by n (n.ends link side) number (was_up (find (is_numbered number) (n.agents (n.ends link side)).links)) (spent 1 (n.agents (n.ends link side)).last_count) h may.1 may.1

@@ -3,7 +3,6 @@ use Rattle.std.proofs.Common.{◌≡◌, ℕ, ◌<◌, ◌⊎◌, suc, Bool, tru
 use Rattle.std.proofs.lemmas.Bool.{both_ways}
 use Rattle.rina_enrol.specs.declared.message.LinkMessage.{LinkMessage}
 use Rattle.rina_enrol.specs.declared.message.LinkMessage.TheVariants as messages
-use Rattle.rina_enrol.proofs.Guesses.{one_message}
 use Rattle.rina_newest.specs.declared.item.Item.{Item}
 use Rattle.rina_newest.specs.Newest.{is_newer, kept_at}
 use Rattle.rina_agent.specs.declared.agent.Agent.{Agent}
@@ -13,6 +12,7 @@ use Rattle.rina_agent.specs.Neighbours.{link_key}
 use Rattle.rina_data.specs.declared.settings.Member.{Member}
 use Rattle.rina_plan.specs.declared.dif.LinkPlan.{LinkPlan}
 use Rattle.rina_member.specs.Handling.{item_in}
+use Rattle.rina_member.specs.Managements.{IsSdu}
 use Rattle.rina_member.specs.Short.{IsShort}
 use Rattle.rina_member.specs.Start.{start_items}
 use Rattle.rina_member.proofs.Laying.{small_address}
@@ -73,16 +73,16 @@ what_comes greatest is_static plans s l d end agent message r h =
     let T : List (List ℕ) → Type 0 = λ ts. AreTexts (n.sent l d) ts in
     let first = texts_first (n.sent l d) h.text (drop (suc count) (s.sent (end_place l d))) (subst T (drop_at (s.sent (end_place l d)) count h.text h.next) (r.is.sent l d)) in
     let rest = first.1 in
+    let its_bytes : IsSdu message h.text = record { in_range = h.in_range; spelled = h.spelled } in
     let is : n.sent l d ≡ ToNeighbour message ∷ rest =
-    first.2 ∙ ap (λ (x : ManagementMessage). x ∷ rest) (text_is message first.0 h.text (λ k range spelled. one_message k message h.text range h.in_range spelled h.spelled) first.3) in
+    first.2 ∙ ap (λ (x : ManagementMessage). x ∷ rest) (text_is message first.0 h.text its_bytes first.3) in
     let among = is_there s.members end.member at.0 at.1 in
     let small = small_address s.members plans r.laid_out at.0 among in
     let telling = telling_run greatest r.start told r.rows at.0.addr r.starts r.run small (has_told is_static plans s r at.0 is_static among refl) (rows_leave r.rows at.0.addr r.of) in
     let address : agent.address ≡ at.0.addr = ap (λ (a : Agent). a.address) (sym at.4) ∙ telling.holds.laid.addresses at.0.addr in
     let written = r.short (end_place l d) h.text (is_there (s.sent (end_place l d)) count h.text h.next) in
-    let S : LinkMessage → Type 0 = λ m. IsShort (ToNeighbour m) in
     record {
-      short = subst S (one_message written.message message h.text written.in_range h.in_range written.spelled h.spelled) written.short;
+      short = subst IsShort (text_is message written.message h.text its_bytes written.is_sdu) written.short;
       own = λ x is_x key.
           (let made = telling.holds.noted.sent l d x (first_item n l d (ToNeighbour message) rest is x (one_carried message x is_x) telling.holds) in
           ap (λ (a : Agent). is_newer x.version (kept_at a.items x.key)) (sym at.4) ∙ own_known at.0.addr (n.agents at.0.addr) n.made x made (key ∙ ap link_key address) telling.told);

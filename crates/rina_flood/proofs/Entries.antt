@@ -24,7 +24,7 @@ use Rattle.rina_member.specs.Knowing.{IsEntryKey}
 use Rattle.rina_member.specs.Managements.{entry_of}
 use Rattle.rina_member.specs.Start.{first_version, start_items}
 use Rattle.rina_member.proofs.Items.{entry_not_link}
-use Rattle.rina_flood.specs.Network.{Side, other, Network, item_in, last_state, put_sent, Row, Make, Put, Take, Handle, Lose, Leave, Drop, Know, Pass, Enrol, Claim, happens, IsRun, after_rows, IsStart}
+use Rattle.rina_flood.specs.Network.{Side, other, Network, item_in, last_state, put_sent, Row, Make, Put, Draw, Take, Handle, Lose, Leave, Drop, Know, Pass, Enrol, Claim, happens, IsRun, after_rows, IsStart}
 use Rattle.rina_flood.specs.Laws.{LeavesLinkState, AllLeaveLinkState}
 use Rattle.rina_flood.specs.Static.{IsFirstEntry, IsOfDif, AreOfDif}
 use Rattle.rina_flood.proofs.All.{near_keeps, row_holds, begin_holds}
@@ -36,7 +36,8 @@ use Rattle.rina_member.proofs.Starting.{start_of}
 
 leaves : (address : ℕ) (row : Row) → IsOfDif row → LeavesLinkState address row
 leaves address (Make i key value) of = λ e. entry_not_link of.0.0 address (sym of.0.1 ∙ e)
-leaves address (Put link side number m) of = tt
+leaves address (Put i number m) of = tt
+leaves address (Draw i) of = tt
 leaves address (Take link side number m) of = tt
 leaves address (Handle link side number m rest) of = tt
 leaves address (Lose link side number) of = tt
@@ -109,7 +110,8 @@ row_made n (Make i key value) h of known x e = elim (Contains-push_cases n.made 
   | inl old ↦ known x old
   | inr is ↦ inr (inl ((of.0.0, sym (ap (λ (y : Item). y.key) is) ∙ of.0.1), subst (λ (c : ℕ). 1 ≤ c) (ap (λ (y : Item). y.version.count) is) (next_some (n.agents i).last_count)))
 ]
-row_made n (Put link side number m) h of known x e = known x e
+row_made n (Put i number m) h of known x e = known x e
+row_made n (Draw i) h of known x e = known x e
 row_made n (Take link side number m) h of known x e = known x (none_more n.made x e)
 row_made n (Handle link side number (ToNeighbour m) rest) h of known x e = handle_known n link side number m rest h known x e
 row_made n (Handle link side number (ToMember m) rest) h of known x e = known x e

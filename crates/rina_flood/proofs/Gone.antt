@@ -18,7 +18,7 @@ use Rattle.rina_agent.specs.Enrolled.{done}
 use Rattle.rina_agent.specs.Enrolments.{is_numbered}
 use Rattle.rina_agent.specs.Items.{made, stated}
 use Rattle.rina_agent.specs.Rows.{dropped, joined_link, joining, joining_link, was_up}
-use Rattle.rina_flood.specs.Network.{Side, other, EndState, Unmade, There, Gone, Network, has_link, item_in, link_at, with_state, put_agent, put_sent, AreApart, Row, Make, Put, Take, Handle, Lose, Leave, Drop, Enrol, Claim, Know, Pass, happens, May, IsRun, after_rows, is_enrolled}
+use Rattle.rina_flood.specs.Network.{Side, other, EndState, Unmade, There, Gone, Network, has_link, item_in, link_at, with_state, put_agent, put_sent, AreApart, Row, Make, Put, Draw, Take, Handle, Lose, Leave, Drop, Enrol, Claim, Know, Pass, happens, May, IsRun, after_rows, is_enrolled}
 use Rattle.rina_flood.specs.Laws.{LostIsGone}
 use Rattle.rina_flood.proofs.All.{near_keeps, row_holds, run_holds}
 use Rattle.rina_flood.proofs.Calls.{at_itself, at_place}
@@ -157,7 +157,8 @@ module _ (at number : ℕ) where
 
     row_lost : (n : Network) (row : Row) → Holds n → May n row → IsLostAt n → IsLostAt (happens n row)
     row_lost n (Make i key value) h may s = still_lost n (happens n (Make i key value)) refl refl (λ t g. one_none n.agents i _ (made_has (spent 1 (n.agents i).last_count) (n.agents i) (made None (n.agents i) n.now key value) number refl) g) s
-    row_lost n (Put link side k m) h may s = still_lost n (happens n (Put link side k m)) refl refl (λ t g. one_none n.agents (n.ends link side) _ (λ e. e) g) s
+    row_lost n (Put i k m) h may s = still_lost n (happens n (Put i k m)) refl refl (λ t g. one_none n.agents i _ (λ e. e) g) s
+    row_lost n (Draw i) h may s = still_lost n (happens n (Draw i)) refl refl (λ t g. one_none n.agents i _ (λ e. e) g) s
     row_lost n (Take link side k m) h may s = still_lost n (happens n (Take link side k m)) refl refl (λ t g. one_none n.agents (n.ends link side) _ (λ e. e) g) s
     row_lost n (Handle link side k (ToNeighbour m) rest) h may s = still_lost n (happens n (Handle link side k (ToNeighbour m) rest)) refl refl (λ t g. handle_none n link side k m rest h g) s
     row_lost n (Handle link side k (ToMember m) rest) h may s = still_lost n (happens n (Handle link side k (ToMember m) rest)) refl refl (λ t g. g) s

@@ -2,7 +2,6 @@ pub mod Adding
 pub mod Agendas
 pub mod Ahead
 pub mod All
-pub mod Bounds
 pub mod Calls
 pub mod Claiming
 pub mod Coming
@@ -12,6 +11,7 @@ pub mod Entering
 pub mod Flow
 pub mod Gap
 pub mod Gone
+pub mod Handled
 pub mod Heard
 pub mod Holds
 pub mod Journals
@@ -23,9 +23,9 @@ pub mod Messages
 pub mod NewLinks
 pub mod Places
 pub mod Plain
+pub mod Posted
 pub mod Quiet
 pub mod Raise
-pub mod Ranges
 pub mod Rows
 pub mod Runs
 pub mod Sample

@@ -1,13 +1,13 @@
 -- The members of a DIF are a network after a run.
-use Rattle.std.proofs.Common.{◌≡◌, ℕ, zero, suc, ◌+◌, ◌≤◌, ◌⊎◌, Bool, true, false, ◌==◌, cond, List, ◌∷◌, ◌++◌, Option, Some, None, Ok, Result, drop, length, map, slice_get, slice_set, refl, sym, ◌∙◌, ap, subst, inl, inr, arith, [], Contains, ◌-◌, ◌^◌, ◌<◌, ◌*◌}
+use Rattle.std.proofs.Common.{◌≡◌, ℕ, zero, suc, ◌+◌, ◌≤◌, ◌⊎◌, Bool, true, false, ◌==◌, cond, List, ◌∷◌, ◌++◌, Option, Some, None, Ok, Result, drop, length, map, slice_get, slice_set, refl, sym, ◌∙◌, ap, subst, inl, inr, arith, [], Contains, ◌-◌, ◌<◌, ◌*◌}
 use Rattle.std.specs.Prelude.{find, is_some, option_map, option_and_then}
 use Rattle.std.proofs.lemmas.Bool.{and_parts, both_ways, cases_Bool, cases_lt, eq-eqb, eqb-true}
 use Rattle.std.proofs.lemmas.List.{drop-append-le, length-map, length-set, length_push}
-use Rattle.std.proofs.lemmas.List.Elements.{Contains-append_right, Contains-push_cases}
+use Rattle.std.proofs.lemmas.List.Elements.{Contains-push_cases}
 use Rattle.std.proofs.lemmas.Option.{none-some, same_Some, slice_get-map, slice_get_within}
 use Rattle.rina_access.specs.declared.rules.Rules.{Rules}
 use Rattle.rina_enrol.specs.declared.message.LinkMessage.{LinkMessage}
-use Rattle.rina_enrol.specs.Messages.{IsInRange, IsSpelled}
+use Rattle.rina_enrol.proofs.Guesses.{one_message}
 use Rattle.rina_iface.proofs.Changed.{set_at, slice_get-set_other, slice_get-set_same}
 use Rattle.rina_newest.specs.declared.item.Item.{Item}
 use Rattle.rina_route.proofs.Lists.{in_none}
@@ -19,7 +19,7 @@ use Rattle.rina_agent.specs.declared.message.Waiting.{Waiting}
 use Rattle.rina_agent.specs.declared.state.MemberState.TheVariants.{Enrolled}
 use Rattle.rina_agent.specs.Agenda.{first_on, waiting_on, without_first}
 use Rattle.rina_agent.specs.Counts.{spent, unless}
-use Rattle.rina_agent.specs.Enrolled.{Claims, Enrols, Event, Handles, Loses, Makes, Takes, after, done}
+use Rattle.rina_agent.specs.Enrolled.{Claims, Enrols, Event, Loses, Makes, Takes, after, done}
 use Rattle.rina_agent.specs.Items.{made, stated}
 use Rattle.rina_agent.specs.declared.state.AgentError.{AgentError}
 use Rattle.rina_dir.specs.Directory.{key_of}
@@ -29,24 +29,24 @@ use Rattle.rina_plan.specs.declared.dif.LinkPlan.{LinkPlan}
 use Rattle.rina_data.specs.declared.settings.Member.{Member}
 use Rattle.rina_data.proofs.Finding.{there}
 use Rattle.rina_member.specs.Knowing.{IsLaidOut}
-use Rattle.rina_member.specs.Managements.{entry_of, takes_item}
+use Rattle.rina_member.specs.Managements.{IsSdu, IsSduOf, entry_of, takes_item}
 use Rattle.rina_member.specs.Start.{HasLinksIfStatic, start_items}
 use Rattle.rina_member.proofs.Laying.{small_address}
 use Rattle.rina_member.proofs.Lists.{is_there}
-use Rattle.rina_flood.specs.Network.{Side, Near, Far, other, EndState, Unmade, There, Gone, Network, AreApart, IsFree, IsNewNumber, Row, Make, Take, Handle, Lose, Leave, Enrol, Claim, Know, Pass, happens, laid, link_at, put_ends, put_state, unhandled, waiting_at, with_state, put_agent, put_sent, is_enrolled, is_in, known, with_item, MayBeKnown, MayLose, May, IsRun, after_rows, IsStart, has_link}
+use Rattle.rina_member.proofs.TextsApart.{texts_apart}
+use Rattle.rina_flood.specs.Network.{Side, Near, Far, other, EndState, Unmade, There, Gone, Network, AreApart, IsFree, IsNewNumber, Row, Make, Take, Lose, Leave, Enrol, Claim, Know, Pass, happens, laid, link_at, put_ends, put_state, with_state, put_agent, put_sent, is_enrolled, is_in, known, with_item, MayBeKnown, MayLose, May, IsRun, after_rows, IsStart, has_link}
 use Rattle.rina_flood.specs.Static.{LinkEnd, IsOfDif, AreOfDif, agent_at, end_address, end_state, end_place, AreFirst, first_network, or_nobody, place_at}
 use Rattle.rina_flood.specs.Laws.{TellsLinks, TellsNone}
-use Rattle.rina_flood.specs.Members.{Adds, AreSame, AreShortTexts, AreTexts, ClaimsLink, IsAgentAt, IsUnused, JoinsLink, HasFirstLinks, HasNoMember, HandlesMessage, IsNetworkOf, IsRunOf, IsShortText, IsText, LosesLinkAt, MakesEntryAt, MembersSeen, OffersMessage, StartsWith, TakesEntry, GoesOn, first_links}
-use Rattle.rina_flood.proofs.Ranges.{message_fits}
+use Rattle.rina_flood.specs.Members.{Adds, AreSame, AreShortTexts, AreTexts, ClaimsLink, IsAgentAt, IsUnused, JoinsLink, HasFirstLinks, HasNoMember, IsNetworkOf, IsRunOf, IsShortText, LosesLinkAt, MakesEntryAt, MembersSeen, OffersMessage, StartsWith, TakesEntry, GoesOn, first_links}
 use Rattle.rina_flood.proofs.Ahead.{IsAhead, rows_ahead}
 use Rattle.rina_flood.proofs.All.{begin_holds, run_holds}
 use Rattle.rina_flood.proofs.Calls.{at_itself, at_others}
 use Rattle.rina_flood.proofs.Entries.{entries_are_one}
 use Rattle.rina_flood.proofs.Known.{knower_links}
-use Rattle.rina_flood.proofs.Messages.{first_waits, lost_link}
-use Rattle.rina_flood.proofs.Places.{drop_at, past_all, in_first, direction_case, same_direction, other_back}
+use Rattle.rina_flood.proofs.Messages.{lost_link}
+use Rattle.rina_flood.proofs.Places.{past_all, direction_case}
 use Rattle.rina_flood.proofs.Settles.{Greatest}
-use Rattle.rina_flood.proofs.Static.{address_is, found_at, found_place, no_link_at, none_at, place_is, network_fresh, network_starts, places_apart}
+use Rattle.rina_flood.proofs.Static.{address_is, found_at, found_place, no_link_at, none_at, place_is, network_starts, places_apart}
 use Rattle.rina_flood.proofs.Stating.{others_tell_none, static_tells}
 use Rattle.rina_flood.proofs.Strays.{IsLinked, no_strays, rows_linked}
 use Rattle.rina_flood.proofs.States.{ends_here, ends_other, put_here, put_other, sides_apart}
@@ -67,13 +67,13 @@ of_more (first ∷ rows) row are is = (are.0, of_more rows row are.1 is)
 
 -- Texts
 
-texts_last : (ms : List ManagementMessage) (texts : List (List ℕ)) (m : ManagementMessage) (text : List ℕ) → AreTexts ms texts → IsText m text → AreTexts (ms ++ m ∷ []) (texts ++ text ∷ [])
+texts_last : (ms : List ManagementMessage) (texts : List (List ℕ)) (m : ManagementMessage) (text : List ℕ) → AreTexts ms texts → IsSduOf m text → AreTexts (ms ++ m ∷ []) (texts ++ text ∷ [])
 texts_last [] [] m text are is = (is, tt)
 texts_last [] (t ∷ texts) m text are is = absurd are
 texts_last (first ∷ ms) [] m text are is = absurd are
 texts_last (first ∷ ms) (t ∷ texts) m text are is = (are.0, texts_last ms texts m text are.1 is)
 
-pub texts_first : (ms : List ManagementMessage) (text : List ℕ) (texts : List (List ℕ)) → AreTexts ms (text ∷ texts) → (m : ManagementMessage) × (rest : List ManagementMessage) × (ms ≡ m ∷ rest) × IsText m text × AreTexts rest texts
+pub texts_first : (ms : List ManagementMessage) (text : List ℕ) (texts : List (List ℕ)) → AreTexts ms (text ∷ texts) → (m : ManagementMessage) × (rest : List ManagementMessage) × (ms ≡ m ∷ rest) × IsSduOf m text × AreTexts rest texts
 texts_first [] text texts are = absurd are
 texts_first (m ∷ ms) text texts are = (m, ms, refl, are.0, are.1)
 
@@ -81,10 +81,10 @@ pub no_texts : (ms : List ManagementMessage) → AreTexts ms [] → ms ≡ []
 no_texts [] are = refl
 no_texts (m ∷ ms) are = absurd are
 
--- a text is of one message, where it is read as that
-pub text_is : (m : LinkMessage) (n : ManagementMessage) (text : List ℕ) → ((k : LinkMessage) → IsInRange k → IsSpelled k text → k ≡ m) → IsText n text → n ≡ ToNeighbour m
-text_is m (ToNeighbour k) text read is = ap ToNeighbour (read k is.0 is.1)
-text_is m (ToMember f) text read is = absurd is
+-- a text of a neighbour is of one message
+pub text_is : (m : LinkMessage) (n : ManagementMessage) (text : List ℕ) → IsSdu m text → IsSduOf n text → n ≡ ToNeighbour m
+text_is m (ToNeighbour k) text is other = ap ToNeighbour (one_message k m text other.in_range is.in_range other.spelled is.spelled)
+text_is m (ToMember f) text is other = absurd (texts_apart text m f is other)
 
 grows : (place : ℕ) (text : List ℕ) (old new : ℕ → List (List ℕ)) → Adds place text old new → (k : ℕ) → length (old k) ≤ length (new k)
 grows place text old new adds k = elim (cases_Bool (k == place)) [
@@ -103,7 +103,7 @@ module _ (is_static : Bool) (plans : List LinkPlan) (s : MembersSeen) (r : IsRun
   abbrev pub net : Network
   net = after_rows r.start r.rows
 
-  more_rows : (s' : MembersSeen) (row : Row) → s'.members ≡ s.members → AreShortTexts s'.sent → May net row → IsOfDif row → IsNetworkOf s' (happens net row) → IsRunOf is_static plans s'
+  pub more_rows : (s' : MembersSeen) (row : Row) → s'.members ≡ s.members → AreShortTexts s'.sent → May net row → IsOfDif row → IsNetworkOf s' (happens net row) → IsRunOf is_static plans s'
   more_rows s' row same short may of is =
       let P : List Member → Type 0 = λ ms. IsLaidOut ms plans in
       let Q : List Member → Type 0 = λ ms. IsStart r.start (start_items is_static ms plans) in
@@ -114,7 +114,6 @@ module _ (is_static : Bool) (plans : List LinkPlan) (s : MembersSeen) (r : IsRun
         start = r.start;
         rows = r.rows ++ row ∷ [];
         starts = subst Q (sym same) r.starts;
-        fresh = r.fresh;
         tells = λ still m among. r.tells still m (subst (T m) same among);
         linked = r.linked;
         tells_none = λ dynamic m among. r.tells_none dynamic m (subst (T m) same among);
@@ -146,7 +145,7 @@ module _ (is_static : Bool) (plans : List LinkPlan) (s : MembersSeen) (r : IsRun
     put_others : (address : ℕ) → HasNoMember s.members address → (put_agent m.addr b net.agents address).links ≡ []
     put_others address none = ap (λ (c : Agent). c.links) (at_others m.addr b net.agents address (λ e. none place m is_m (sym e))) ∙ r.is.others address none
 
-    changed : (agents : ℕ → Agent) (flying : ℕ → Side → List ManagementMessage) (made : List Item) (offered : ℕ → List Item) (sent got : ℕ → List (List ℕ)) → ((i : ℕ) → agents i ≡ put_agent m.addr b net.agents i)
+    pub changed : (agents : ℕ → Agent) (flying : ℕ → Side → List ManagementMessage) (made : List Item) (offered : ℕ → List Item) (sent got : ℕ → List (List ℕ)) → ((i : ℕ) → agents i ≡ put_agent m.addr b net.agents i)
         → ((l : ℕ) (d : Side) → length (got (end_place l (other d))) ≤ length (sent (end_place l d)))
         → ((l : ℕ) (d : Side) → AreTexts (flying l d) (drop (length (got (end_place l (other d)))) (sent (end_place l d))))
         → IsNetworkOf (record s { agents = slice_set s.agents place b; sent = sent; got = got }) (record net { agents = agents; sent = flying; made = made; offered = offered })
@@ -170,7 +169,6 @@ same_texts is_static plans s sent got r same_sent same_got = record {
   start = r.start;
   rows = r.rows;
   starts = r.starts;
-  fresh = r.fresh;
   tells = r.tells;
   linked = r.linked;
   tells_none = r.tells_none;
@@ -197,7 +195,7 @@ same_texts is_static plans s sent got r same_sent same_got = record {
   short = λ place text has. r.short place text (let P : List (List ℕ) → Type 0 = λ ts. Contains ts text in subst P (same_sent place) has);
 }
 
-alike_run : (is_static : Bool) (plans : List LinkPlan) (s new : MembersSeen) → IsRunOf is_static plans s → new.members ≡ s.members → new.ends ≡ s.ends → new.now ≡ s.now → new.agents ≡ s.agents → AreSame s.sent new.sent → AreSame s.got new.got → IsRunOf is_static plans new
+pub alike_run : (is_static : Bool) (plans : List LinkPlan) (s new : MembersSeen) → IsRunOf is_static plans s → new.members ≡ s.members → new.ends ≡ s.ends → new.now ≡ s.now → new.agents ≡ s.agents → AreSame s.sent new.sent → AreSame s.got new.got → IsRunOf is_static plans new
 alike_run is_static plans s new r members ends now agents sent got =
     let M : List Member → Type 0 = λ ms. IsRunOf is_static plans (record s { members = ms }) in
     let E : List LinkEnd → Type 0 = λ es. IsRunOf is_static plans (record s { members = new.members; ends = es }) in
@@ -207,7 +205,7 @@ alike_run is_static plans s new r members ends now agents sent got =
     same_texts is_static plans (record s { members = new.members; ends = new.ends; now = new.now; agents = new.agents }) new.sent new.got moved sent got
 
 -- what a call makes of the agents, where the address, the agent and the event are known
-called_at : (agents : ℕ → Agent) (i address : ℕ) (a b : Agent) (e f : Event) → i ≡ address → agents address ≡ a → e ≡ f → after a f ≡ b → (j : ℕ) → put_agent i (after (agents i) e) agents j ≡ put_agent address b agents j
+pub called_at : (agents : ℕ → Agent) (i address : ℕ) (a b : Agent) (e f : Event) → i ≡ address → agents address ≡ a → e ≡ f → after a f ≡ b → (j : ℕ) → put_agent i (after (agents i) e) agents j ≡ put_agent address b agents j
 called_at agents i address a b e f is_i is_a is_e is_b j =
     ap (λ (k : ℕ). put_agent k (after (agents k) e) agents j) is_i
     ∙ ap (λ (c : Agent). put_agent address (after c e) agents j) is_a
@@ -375,25 +373,19 @@ offers_run is_static plans old new r h =
     let n = net is_static plans old r in
     let l = h.link in
     let d = h.side in
-    let message = ToNeighbour h.message in
+    let message = h.message in
     let at = at_end is_static plans old r l d h.end h.agent h.at in
     let after_it : Agent = record h.agent { agenda = without_first h.number h.agent.agenda } in
     let there : n.states l d ≡ There h.number = at.3 ∙ h.there in
     let may : first_on h.number (n.agents (n.ends l d)).agenda ≡ Some (record { link = h.number; message = message }) =
     ap (λ (i : ℕ). first_on h.number (n.agents i).agenda) at.2 ∙ ap (λ (c : Agent). first_on h.number c.agenda) at.4 ∙ h.first in
-    let waits : Contains (waiting_on h.number (n.agents (n.ends l d)).agenda) message = (let W : List ManagementMessage → Type 0 = λ ms. Contains ms message in
-    subst W (sym (first_waits h.number (n.agents (n.ends l d)).agenda (record { link = h.number; message = message }) may)) (in_first message (waiting_on h.number (without_first h.number (n.agents (n.ends l d)).agenda)))) in
-    let among : Contains (unhandled n l d) message = (let W : EndState → Type 0 = λ s. Contains (waiting_at s (n.agents (n.ends l d)).agenda) message in
-    Contains-append_right (n.sent l d) (waiting_at (n.states l d) (n.agents (n.ends l d)).agenda) message (subst W (sym there) waits)) in
-    let early : n.now < 2 ^ 32 = (let now = r.is.now in let small = h.early in omega (arith, now, small)) in
-    let fits = message_fits is_static r.start old.members plans r.rows r.laid_out r.starts r.run r.of r.fresh l d h.message early among in
-    let short : AreShortTexts new.sent = offered_short (end_place l d) h.text old.sent new.sent h.sent (record { message = h.message; in_range = fits; spelled = h.written; short = h.short }) r.short in
+    let short : AreShortTexts new.sent = offered_short (end_place l d) h.text old.sent new.sent h.sent (record { message = message; is_sdu = h.written; short = h.short }) r.short in
     let are = called_at n.agents (n.ends l d) at.0.addr h.agent after_it (Takes h.number) (Takes h.number) at.2 at.4 refl refl in
     let fewer : (k : ℕ) (e : Side) → length (old.got (end_place k (other e))) ≤ length (new.sent (end_place k e)) = λ k e. (let was = r.is.fewer k e in let more = grows (end_place l d) h.text old.sent new.sent h.sent (end_place k e) in omega (arith, was, more)) in
     let handled_there : ℕ = length (old.got (end_place l (other d))) in
     let longer : drop handled_there (new.sent (end_place l d)) ≡ drop handled_there (old.sent (end_place l d)) ++ h.text ∷ [] = ap (λ (ts : List (List ℕ)). drop handled_there ts) h.sent.here ∙ drop-append-le handled_there (old.sent (end_place l d)) (h.text ∷ []) (r.is.fewer l d) in
     let T : List (List ℕ) → Type 0 = λ ts. AreTexts (n.sent l d ++ message ∷ []) ts in
-    let here : AreTexts (n.sent l d ++ message ∷ []) (drop handled_there (new.sent (end_place l d))) = subst T (sym longer) (texts_last (n.sent l d) (drop handled_there (old.sent (end_place l d))) message h.text (r.is.sent l d) (fits, h.written)) in
+    let here : AreTexts (n.sent l d ++ message ∷ []) (drop handled_there (new.sent (end_place l d))) = subst T (sym longer) (texts_last (n.sent l d) (drop handled_there (old.sent (end_place l d))) message h.text (r.is.sent l d) h.written) in
     let texts : (k : ℕ) (e : Side) → AreTexts (put_sent l d (n.sent l d ++ message ∷ []) n.sent k e) (drop (length (old.got (end_place k (other e)))) (new.sent (end_place k e))) = λ k e.
     direction_case (λ (ms : List ManagementMessage). AreTexts ms (drop (length (old.got (end_place k (other e)))) (new.sent (end_place k e)))) l d k e (n.sent l d ++ message ∷ []) (n.sent k e)
     (λ a b. (let Q : ℕ → Type 0 = λ j. AreTexts (n.sent l d ++ message ∷ []) (drop (length (old.got (end_place j (other e)))) (new.sent (end_place j e))) in
@@ -403,43 +395,6 @@ offers_run is_static plans old new r h =
     subst U (sym (h.sent.elsewhere (end_place k e) (λ same. apart (places_apart k e l d same)))) (r.is.sent k e))) in
     alike_run is_static plans (record old { agents = slice_set old.agents h.end.member after_it; sent = new.sent }) new (more_rows is_static plans old r (record old { agents = slice_set old.agents h.end.member after_it; sent = new.sent }) (Take l d h.number message) refl short (there, may) tt
     (changed is_static plans old r h.end.member at.0 h.agent after_it at.1 h.at.is_agent _ (put_sent l d (n.sent l d ++ message ∷ []) n.sent) _ _ new.sent old.got are fewer texts)) h.stays.members h.stays.ends h.now h.agents (λ k. refl) h.got
-
--- A message is handled
-
-pub handles_run : (is_static : Bool) (plans : List LinkPlan) (old new : MembersSeen) → IsRunOf is_static plans old → HandlesMessage old new → IsRunOf is_static plans new
-handles_run is_static plans old new r h =
-    let n = net is_static plans old r in
-    let l = h.link in
-    let d = h.side in
-    let place = end_place l (other d) in
-    let count : ℕ = length (old.got place) in
-    let at = at_end is_static plans old r l (other d) h.end h.agent h.at in
-    let T : List (List ℕ) → Type 0 = λ ts. AreTexts (n.sent l d) ts in
-    let first = texts_first (n.sent l d) h.text (drop (suc count) (old.sent (end_place l d))) (subst T (drop_at (old.sent (end_place l d)) count h.text h.next) (r.is.sent l d)) in
-    let rest = first.1 in
-    let may : n.sent l d ≡ ToNeighbour h.message ∷ rest = first.2 ∙ ap (λ (x : ManagementMessage). x ∷ rest) (text_is h.message first.0 h.text h.read first.3) in
-    let event : Handles n.now h.number h.message ≡ Handles old.now h.number h.message = ap (λ (t : ℕ). Handles t h.number h.message) r.is.now in
-    let are = called_at n.agents (n.ends l (other d)) at.0.addr h.agent h.after (Handles n.now h.number h.message) (Handles old.now h.number h.message) at.2 at.4 event (ap (λ o. done h.agent o) h.handles) in
-    let longer : length (new.got place) ≡ suc count = ap (λ (ts : List (List ℕ)). length ts) h.got.here ∙ length_push (old.got place) h.text ∙ omega arith in
-    let elsewhere : (k : ℕ) (e : Side) → ((k ≡ l) × (e ≡ d) → ⊥) → new.got (end_place k (other e)) ≡ old.got (end_place k (other e)) = λ k e apart. h.got.elsewhere (end_place k (other e)) (λ same. (let is = places_apart k (other e) l (other d) same in apart (is.0, sym (other_back e) ∙ ap other is.1 ∙ other_back d))) in
-    let within = slice_get_within (old.sent (end_place l d)) count h.text h.next in
-    let fewer : (k : ℕ) (e : Side) → length (new.got (end_place k (other e))) ≤ length (old.sent (end_place k e)) = λ k e. elim (same_direction l d k e) [
-      | inl same ↦
-          (let Q : ℕ → Type 0 = λ j. length (new.got (end_place j (other e))) ≤ length (old.sent (end_place j e)) in
-          let R : Side → Type 0 = λ t. length (new.got (end_place l (other t))) ≤ length (old.sent (end_place l t)) in
-          subst Q (sym same.0) (subst R (sym same.1) (omega (arith, longer, within))))
-      | inr apart ↦ (let Q : List (List ℕ) → Type 0 = λ ts. length ts ≤ length (old.sent (end_place k e)) in subst Q (sym (elsewhere k e apart)) (r.is.fewer k e))
-    ] in
-    let texts : (k : ℕ) (e : Side) → AreTexts (put_sent l d rest n.sent k e) (drop (length (new.got (end_place k (other e)))) (old.sent (end_place k e))) = λ k e.
-    direction_case (λ (ms : List ManagementMessage). AreTexts ms (drop (length (new.got (end_place k (other e)))) (old.sent (end_place k e)))) l d k e rest (n.sent k e)
-    (λ a b. (let Q : ℕ → Type 0 = λ j. AreTexts rest (drop (length (new.got (end_place j (other e)))) (old.sent (end_place j e))) in
-    let R : Side → Type 0 = λ t. AreTexts rest (drop (length (new.got (end_place l (other t)))) (old.sent (end_place l t))) in
-    let U : ℕ → Type 0 = λ j. AreTexts rest (drop j (old.sent (end_place l d))) in
-    subst Q (sym a) (subst R (sym b) (subst U (sym longer) first.4))))
-    (λ apart. (let U : List (List ℕ) → Type 0 = λ ts. AreTexts (n.sent k e) (drop (length ts) (old.sent (end_place k e))) in
-    subst U (sym (elsewhere k e apart)) (r.is.sent k e))) in
-    alike_run is_static plans (record old { agents = slice_set old.agents h.end.member h.after; got = new.got }) new (more_rows is_static plans old r (record old { agents = slice_set old.agents h.end.member h.after; got = new.got }) (Handle l d h.number (ToNeighbour h.message) rest) refl r.short (at.3 ∙ h.there, may) tt
-    (changed is_static plans old r h.end.member at.0 h.agent h.after at.1 h.at.is_agent _ (put_sent l d rest n.sent) _ _ old.sent new.got are fewer texts)) h.stays.members h.stays.ends h.now h.agents h.sent (λ k. refl)
 
 -- A directory entry is taken by all
 
@@ -754,7 +709,6 @@ start_run greatest is_static plans s h =
       start = n;
       rows = [];
       starts = network_starts is_static some_rules s.members plans s.agents s.ends s.now h.laid_out h.first h.ends;
-      fresh = network_fresh is_static some_rules s.members plans s.agents s.ends s.now h.laid_out h.first h.ends;
       tells = λ still m among. first_tells greatest is_static s.members plans s.agents s.ends s.now m still h.laid_out h.first among;
       linked = first_made s.ends (first_links is_static plans) (first_ends is_static plans s.ends h.bare h.planned) h.made;
       tells_none = λ dynamic m among. first_tells_none is_static s.members plans s.agents s.ends s.now m dynamic h.laid_out h.first among;

@@ -19,7 +19,7 @@ use Rattle.rina_agent.specs.Enrolments.{is_numbered}
 use Rattle.rina_agent.specs.Items.{made, stated, took, own_item}
 use Rattle.rina_agent.specs.Neighbours.{link_key, link_state}
 use Rattle.rina_agent.specs.Rows.{dropped, handled, joined_link, joining, was_up}
-use Rattle.rina_flood.specs.Network.{Side, other, EndState, Unmade, There, Gone, Network, waiting_at, put_agent, put_ends, put_offers, put_sent, carried, Row, Make, Put, Take, Handle, Lose, Leave, Drop, Know, Pass, happens, May, IsRun, after_rows, IsStart, Enrol, Claim}
+use Rattle.rina_flood.specs.Network.{Side, other, EndState, Unmade, There, Gone, Network, waiting_at, put_agent, put_ends, put_offers, put_sent, carried, Row, Make, Put, Draw, Take, Handle, Lose, Leave, Drop, Know, Pass, happens, May, IsRun, after_rows, IsStart, Enrol, Claim}
 use Rattle.rina_flood.proofs.Holds.{is_plain, IsPlain, Holds}
 use Rattle.rina_flood.proofs.Known.{know_plain}
 use Rattle.rina_flood.proofs.Places.{nothing_in, in_first, put_case}
@@ -30,7 +30,7 @@ use Rattle.rina_flood.proofs.Adding.{AddsNews, handled_news, joins_news, unless_
 use Rattle.rina_flood.proofs.Ahead.{gone_unmade, was_unmade}
 use Rattle.rina_flood.proofs.All.{row_holds, no_messages}
 use Rattle.rina_flood.proofs.Calls.{at_place}
-use Rattle.rina_flood.proofs.Runs.{drop_is_plain, put_is_plain, take_is_plain, left_is_plain, passed_is_plain, moving_plain, lost_to, drop_moving, put_moving, take_moving, left_moving, passed_moving}
+use Rattle.rina_flood.proofs.Runs.{draw_is_plain, draw_moving, drop_is_plain, put_is_plain, take_is_plain, left_is_plain, passed_is_plain, moving_plain, lost_to, drop_moving, put_moving, take_moving, left_moving, passed_moving}
 
 pub first_plain : (n : Network) (link : ℕ) (side : Side) (m : ManagementMessage) (rest : List ManagementMessage) → IsPlain n link side → n.sent link side ≡ m ∷ rest → is_plain m ≡ true
 first_plain n link side m rest p first =
@@ -141,7 +141,8 @@ pub record ArePlain (count : ℕ) (n : Network) : Type 0 where
 -- an end that is not made was not before
 row_unmade : (n : Network) (row : Row) (l : ℕ) (d : Side) → (happens n row).states l d ≡ Unmade → n.states l d ≡ Unmade
 row_unmade n (Make i key value) l d e = e
-row_unmade n (Put link side number m) l d e = e
+row_unmade n (Put i number m) l d e = e
+row_unmade n (Draw i) l d e = e
 row_unmade n (Take link side number m) l d e = e
 row_unmade n (Handle link side number (ToNeighbour m) rest) l d e = e
 row_unmade n (Handle link side number (ToMember m) rest) l d e = e
@@ -159,7 +160,8 @@ made_apart n link side l d made unmade on = made (ap (λ (k : ℕ). n.states k d
 
 row_plain : (n : Network) (row : Row) (count : ℕ) → Holds n → ArePlain count n → May n row → (l : ℕ) (d : Side) → l < count → IsPlain (happens n row) l d
 row_plain n (Make i key value) count h p may l d lt = make_plain n i key value l d (p.plain l d lt) may
-row_plain n (Put link side number m) count h p may l d lt = moving_plain n _ n.sent (put_moving n link side number m) (put_is_plain n link side number m) l d (p.plain l d lt)
+row_plain n (Put i number m) count h p may l d lt = moving_plain n _ n.sent (put_moving n i number m) (put_is_plain n i number m) l d (p.plain l d lt)
+row_plain n (Draw i) count h p may l d lt = moving_plain n _ n.sent (draw_moving n i) (draw_is_plain n i) l d (p.plain l d lt)
 row_plain n (Take link side number m) count h p may l d lt = moving_plain n _ _ (take_moving n link side number m h may.0 may.1) (take_is_plain n link side number m h may.0 may.1) l d (p.plain l d lt)
 row_plain n (Handle link side number (ToNeighbour m) rest) count h p may l d lt = near_handled n link side number m rest l d h may.0 may.1 (λ is. p.plain link side (omega (arith, lt, is))) (p.plain l d lt)
 row_plain n (Handle link side number (ToMember m) rest) count h p may l d lt = moving_plain n n.agents _ (passed_moving n link side (ToMember m) rest refl may.1) (passed_is_plain n link side (ToMember m) rest refl may.1) l d (p.plain l d lt)

@@ -20,7 +20,7 @@ use Rattle.rina_agent.specs.Enrolled.{done}
 use Rattle.rina_agent.specs.Items.{made, stated, own_item}
 use Rattle.rina_agent.specs.Neighbours.{link_key, link_state}
 use Rattle.rina_agent.specs.Rows.{was_up, dropped}
-use Rattle.rina_flood.specs.Network.{Side, Near, Far, other, EndState, Unmade, There, Gone, has_lost, is_lost, Network, link_at, waiting_at, put_agent, put_offers, put_sent, stands, is_up, has_link, unhandled, carried, on_way, Take, Pass, happens, with_message}
+use Rattle.rina_flood.specs.Network.{Side, Near, Far, other, EndState, Unmade, There, Gone, has_lost, is_lost, Network, link_at, waiting_at, put_agent, put_offers, put_sent, stands, is_up, has_link, unhandled, carried, on_way, Take, Pass, happens, with_invoke, with_message}
 use Rattle.rina_flood.proofs.Agendas.{lost_fewer, dropped_from_at, dropped_stays_at}
 use Rattle.rina_flood.proofs.Calls.{AreFewer, fewer_has, fewer_up, same_links, at_itself, at_place, knows_same, offers_from}
 use Rattle.rina_flood.proofs.Flow.{IsMoved, moved_flooded}
@@ -177,9 +177,8 @@ none_waits Unmade m e = nothing_in m e
 none_waits (There k) m e = nothing_in m e
 none_waits Gone m e = nothing_in m e
 
-pub put_moving : (n : Network) (link : ℕ) (side : Side) (number : ℕ) (m : FlowMessage) → IsMoving n (put_agent (n.ends link side) (with_message (n.agents (n.ends link side)) number m) n.agents) n.sent
-put_moving n link side number m =
-    let i = n.ends link side in
+pub put_moving : (n : Network) (i number : ℕ) (m : FlowMessage) → IsMoving n (put_agent i (with_message (n.agents i) number m) n.agents) n.sent
+put_moving n i number m =
     let a = n.agents i in
     let w : Waiting = record { link = number; message = ToMember m } in
     let b = with_message a number m in
@@ -203,6 +202,21 @@ put_moving n link side number m =
         | inr waits ↦ inl (Contains-append_right (n.sent l d) (waiting_at (n.states l d) (put_agent i b n.agents (n.ends l d)).agenda) z
             (at_place (λ c e. Contains (waiting_at (n.states l d) c.agenda) z → Contains (waiting_at (n.states l d) e.agenda) z) i b n.agents (n.ends l d) (λ v. old_at (n.states l d) a.agenda (w ∷ []) z v) (λ c v. v) waits))
       ];
+    }
+
+-- An invoke id is drawn: all that is seen of the member is as before
+
+pub draw_moving : (n : Network) (i : ℕ) → IsMoving n (put_agent i (with_invoke (n.agents i)) n.agents) n.sent
+draw_moving n i =
+    let a = n.agents i in
+    let b = with_invoke a in
+    let waits : (l : ℕ) (d : Side) → waiting_at (n.states l d) (put_agent i b n.agents (n.ends l d)).agenda ≡ waiting_at (n.states l d) (n.agents (n.ends l d)).agenda = λ l d.
+    at_place (λ c e. waiting_at (n.states l d) e.agenda ≡ waiting_at (n.states l d) c.agenda) i b n.agents (n.ends l d) refl (λ c. refl) in
+    record {
+      same = put_same i b n.agents (record { items = refl; address = refl; count = refl; fewer = same_links a.links });
+      plain = true;
+      follows = λ l d z e. inl (subst (λ (ms : List ManagementMessage). Contains (n.sent l d ++ ms) z) (waits l d) e);
+      remains = λ l d z up e. inl (subst (λ (ms : List ManagementMessage). Contains (n.sent l d ++ ms) z) (sym (waits l d)) e);
     }
 
 -- A message is taken from an agenda, and sent: the messages of each direction are the same
@@ -358,9 +372,13 @@ pub drop_is_plain : (n : Network) (i k : ℕ) (h : Holds n) → (drop_moving n i
 unfolding drop_moving
 drop_is_plain n i k h = refl
 
-pub put_is_plain : (n : Network) (link : ℕ) (side : Side) (number : ℕ) (m : FlowMessage) → (put_moving n link side number m).plain ≡ true
+pub put_is_plain : (n : Network) (i number : ℕ) (m : FlowMessage) → (put_moving n i number m).plain ≡ true
 unfolding put_moving
-put_is_plain n link side number m = refl
+put_is_plain n i number m = refl
+
+pub draw_is_plain : (n : Network) (i : ℕ) → (draw_moving n i).plain ≡ true
+unfolding draw_moving
+draw_is_plain n i = refl
 
 pub take_is_plain : (n : Network) (link : ℕ) (side : Side) (number : ℕ) (m : ManagementMessage) (h : Holds n) (there : n.states link side ≡ There number) (first : first_on number (n.agents (n.ends link side)).agenda ≡ Some (record { link = number; message = m })) → (take_moving n link side number m h there first).plain ≡ true
 unfolding take_moving

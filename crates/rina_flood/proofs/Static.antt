@@ -151,14 +151,6 @@ module _ (is_static : Bool) (members : List Member) (plans : List LinkPlan) (m :
   unfolding started
   started_items = refl
 
-  started_count : its.last_count ≡ 0
-  unfolding started
-  started_count = refl
-
-  started_invoke : its.last_invoke ≡ 0
-  unfolding started
-  started_invoke = refl
-
   started_agenda : its.agenda ≡ []
   unfolding started
   started_agenda = refl
@@ -314,9 +306,6 @@ module _ (is_static : Bool) (rules : Rules) (members : List Member) (plans : Lis
   ends_apart j k None b number p q addresses has too = absurd (cc)
   ends_apart j k (Some a) None number p q addresses has too = absurd (cc)
   ends_apart j k (Some a) (Some b) number p q addresses has too = are.apart j k a b number p q (same_place members laid.addresses a.member b.member (are.within j a p) (are.within k b q) addresses) has too
-
-  pub network_fresh : (i : ℕ) → ((here.agents i).last_count ≡ 0) × ((here.agents i).last_invoke ≡ 0)
-  network_fresh i = at_address (λ a. (a.last_count ≡ 0) × (a.last_invoke ≡ 0)) i (λ m r links address numbered. (started_count is_static members plans m r links, started_invoke is_static members plans m r links)) (λ none. (refl, refl))
 
   pub network_starts : IsStart here told
   network_starts = record {

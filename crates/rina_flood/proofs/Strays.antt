@@ -19,20 +19,19 @@ use Rattle.rina_agent.specs.declared.message.Waiting.{Waiting}
 use Rattle.rina_agent.specs.declared.state.AgentError.{AgentError}
 use Rattle.rina_agent.specs.declared.state.MemberState.{MemberState}
 use Rattle.rina_agent.specs.declared.state.MemberState.TheVariants.{Outside, Joining, Enrolled, Denied}
-use Rattle.rina_agent.specs.Agenda.{flood_on, floods, is_flooded, item_on, near, waiting_on, waits_on}
+use Rattle.rina_agent.specs.Agenda.{flood_on, floods, is_flooded, item_on, near, waiting_on, waits_on, without_first}
 use Rattle.rina_agent.specs.Counts.{next_of, spent, unless}
 use Rattle.rina_agent.specs.Enrolled.{done}
 use Rattle.rina_agent.specs.Enrolments.{hears, is_numbered, place_of}
 use Rattle.rina_agent.specs.Items.{made, own_item, stated}
 use Rattle.rina_agent.specs.Neighbours.{link_key, link_state}
 use Rattle.rina_agent.specs.Rows.{allowed_as, allowed_by, connected_as, connected_by, denial, denied_by, dropped, either, entered, handled, introduced_in, joined_link, joining, joining_link, need_in, noted_by, peer_by, start_batch, started, started_as, started_by, stop_batch, stopped_as, stopped_by, up_link, was_up}
-use Rattle.rina_flood.specs.Network.{other, Network, put_agent, Row, Make, Put, Take, Handle, Lose, Leave, Drop, Enrol, Claim, Know, Pass, happens, May, IsRun, after_rows, is_enrolled}
+use Rattle.rina_flood.specs.Network.{other, Network, put_agent, Row, Make, Put, Draw, Take, Handle, Lose, Leave, Drop, Enrol, Claim, Know, Pass, happens, May, IsRun, after_rows, is_enrolled}
 use Rattle.rina_flood.proofs.Calls.{at_place}
 use Rattle.rina_flood.proofs.Heard.{IsHeard, found_number, is_heard, placed, set_link, set_other, set_same}
 use Rattle.rina_flood.proofs.Known.{knower}
 use Rattle.rina_flood.proofs.Messages.{spared_link}
-use Rattle.rina_flood.proofs.Places.{nothing_in, in_cons, in_first, in_rest}
-use Rattle.rina_flood.proofs.Ranges.{shorter}
+use Rattle.rina_flood.proofs.Places.{nothing_in, in_cons, in_first, in_rest, without_cons}
 
 abbrev HasNumber : List Link → ℕ → Type 0
 HasNumber links k = is_some (find (is_numbered k) links) ≡ true
@@ -264,6 +263,21 @@ known_linked : (taking : Bool) (x : Item) (a : Agent) → IsLinked a → IsLinke
 known_linked true x a f = f
 known_linked false x a f = f
 
+-- what waits without the first message of a link waited before
+shorter : (k : ℕ) (ws : List Waiting) (w : Waiting) → Contains (without_first k ws) w → Contains ws w
+shorter k [] w e = e
+shorter k (v ∷ ws) w e = elim (cases_Bool (v.link == k)) [
+  | inl is ↦
+      (let gone : without_first k (v ∷ ws) ≡ ws = without_cons (waits_on k) v ws ∙ rw is refl in
+      in_rest v ws w (subst (λ (xs : List Waiting). Contains xs w) gone e))
+  | inr isnt ↦
+      (let kept : without_first k (v ∷ ws) ≡ v ∷ without_first k ws = without_cons (waits_on k) v ws ∙ rw isnt refl in
+      elim (in_cons v (without_first k ws) w (subst (λ (xs : List Waiting). Contains xs w) kept e)) [
+        | inl is ↦ subst (λ (u : Waiting). Contains (v ∷ ws) u) is (in_first v ws)
+        | inr rest ↦ in_rest v ws w (shorter k ws w rest)
+      ])
+]
+
 -- All rows
 
 one_linked : (n : Network) (i : ℕ) (b : Agent) → (IsLinked (n.agents i) → IsLinked b) → ((j : ℕ) → IsLinked (n.agents j)) → (j : ℕ) → IsLinked (put_agent i b n.agents j)
@@ -271,7 +285,8 @@ one_linked n i b changed f j = at_place (λ a c. IsLinked a → IsLinked c) i b 
 
 row_linked : (n : Network) (row : Row) → May n row → ((i : ℕ) → IsLinked (n.agents i)) → (i : ℕ) → IsLinked ((happens n row).agents i)
 row_linked n (Make j key value) may f = one_linked n j _ (λ g. unless_linked (spent 1 (n.agents j).last_count) (n.agents j) (made None (n.agents j) n.now key value) g (made_linked None (n.agents j) n.now key value g)) f
-row_linked n (Put link side number m) may f = one_linked n (n.ends link side) _ (λ g. push_linked (n.agents (n.ends link side)).links (n.agents (n.ends link side)).agenda (record { link = number; message = ToMember m }) g may.1) f
+row_linked n (Put i number m) may f = one_linked n i _ (λ g. push_linked (n.agents i).links (n.agents i).agenda (record { link = number; message = ToMember m }) g may) f
+row_linked n (Draw i) may f = one_linked n i _ (λ g. g) f
 row_linked n (Take link side number m) may f = one_linked n (n.ends link side) _ (λ g w e. g w (shorter number (n.agents (n.ends link side)).agenda w e)) f
 row_linked n (Handle link side number (ToNeighbour m) rest) may f = one_linked n (n.ends link (other side)) _ (λ g. handled_linked (n.agents (n.ends link (other side))) n.now number m g) f
 row_linked n (Handle link side number (ToMember m) rest) may f = f

@@ -22,7 +22,7 @@ use Rattle.rina_agent.specs.Items.{made, stated, took, own_item}
 use Rattle.rina_agent.specs.Neighbours.{link_key, link_state, member_key}
 use Rattle.rina_agent.specs.Rows.{was_up, dropped, joined_link, joining, joining_link}
 use Rattle.rina_member.proofs.Items.{not_link}
-use Rattle.rina_flood.specs.Network.{Side, Near, Far, other, EndState, Unmade, There, Gone, Network, link_at, put_agent, put_sent, carried, item_in, called, news, last_state, AreApart, Row, Make, Put, Take, Handle, Lose, Leave, Drop, Know, Pass, happens, May, IsRun, after_rows, IsStart, is_up, joins, Enrol, Claim, KnowsAll, KnowsNothing, is_enrolled}
+use Rattle.rina_flood.specs.Network.{Side, Near, Far, other, EndState, Unmade, There, Gone, Network, link_at, put_agent, put_sent, carried, item_in, called, news, last_state, AreApart, Row, Make, Put, Draw, Take, Handle, Lose, Leave, Drop, Know, Pass, happens, May, IsRun, after_rows, IsStart, is_up, joins, Enrol, Claim, KnowsAll, KnowsNothing, is_enrolled}
 use Rattle.rina_flood.specs.Laws.{LeavesLinkState, AllLeaveLinkState, TellsLinks, TellsNone, IsQuietWalk, QuietTellsLinks}
 use Rattle.rina_flood.proofs.Calls.{at_place, at_itself}
 use Rattle.rina_flood.proofs.Agendas.{lost_fewer}
@@ -203,7 +203,8 @@ module _ (address : ℕ) (greatest : Greatest) (fits : address < 2 ^ 32) where
 
   row_told : (n : Network) (row : Row) → May n row → LeavesLinkState address row → IsTelling address n → HasTold address ((happens n row).agents address) (happens n row).made × ByItself address (happens n row).made
   row_told n (Make i key value) may leaves s = (make_told n i key value may leaves s, make_alone address n.made (own_item (n.agents i) n.now key value) leaves s.alone)
-  row_told n (Put link side number m) may leaves s = (one_told n address (n.ends link side) _ n.made (λ y e key. e) (told_same address (n.agents (n.ends link side)) _ n.made refl refl (λ k u. u)) s.told, s.alone)
+  row_told n (Put i number m) may leaves s = (one_told n address i _ n.made (λ y e key. e) (told_same address (n.agents i) _ n.made refl refl (λ k u. u)) s.told, s.alone)
+  row_told n (Draw i) may leaves s = (one_told n address i _ n.made (λ y e key. e) (told_same address (n.agents i) _ n.made refl refl (λ k u. u)) s.told, s.alone)
   row_told n (Take link side number m) may leaves s = (one_told n address (n.ends link side) _ (n.made ++ []) (none_made n.made address) (told_same address (n.agents (n.ends link side)) _ n.made refl refl (λ k u. u)) s.told, same_alone address n.made s.alone)
   row_told n (Handle link side number (ToNeighbour m) rest) may leaves s = handle_told n link side number m rest s may.1
   row_told n (Handle link side number (ToMember m) rest) may leaves s = (s.told, s.alone)
@@ -277,7 +278,8 @@ tells_still n rows i (inr t) not = absurd (not t)
 -- what was made stays made
 made_stays : (n : Network) (row : Row) (x : Item) → Contains n.made x → Contains (happens n row).made x
 made_stays n (Make i key value) x e = Contains-append_left n.made (news (n.agents i) (Makes n.now key value)) x e
-made_stays n (Put link side number m) x e = e
+made_stays n (Put i number m) x e = e
+made_stays n (Draw i) x e = e
 made_stays n (Take link side number m) x e = Contains-append_left n.made [] x e
 made_stays n (Handle link side number (ToNeighbour m) rest) x e = Contains-append_left n.made (news (n.agents (n.ends link (other side))) (Handles n.now number m)) x e
 made_stays n (Handle link side number (ToMember m) rest) x e = e

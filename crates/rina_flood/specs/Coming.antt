@@ -12,7 +12,8 @@ use Rattle.rina_flood.specs.Network.{Side, other}
 use Rattle.rina_flood.specs.Static.{LinkEnd, end_place}
 use Rattle.rina_flood.specs.Members.{IsAgentAt, IsRunOf, MembersSeen}
 
--- of the texts that one end of a link offered, the first that is not handled at the other end, where this agent is, is that of a message
+-- of the texts that one end of a link offered, the first that is not handled at the other end, where this agent is, is that of a message of a
+-- neighbour
 pub record ComesNext (s : MembersSeen) (l : ℕ) (d : Side) (end : LinkEnd) (agent : Agent) (message : LinkMessage) : Type 0 where
   pub at : IsAgentAt s l (other d) end agent
   pub text : List ℕ

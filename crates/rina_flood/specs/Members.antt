@@ -1,11 +1,11 @@
 -- The members of a DIF as a network: what stands at a moment, what happens to it, and that each is a row.
-use Rattle.std.specs.Prelude.{◌≡◌, ℕ, ◌*◌, ◌≤◌, ◌⊎◌, Bool, false, List, [], ◌∷◌, ◌++◌, drop, length, map, slice_get, slice_set, Option, Some, None, Ok, true, Contains, find, ◌<◌, ◌^◌}
+use Rattle.std.specs.Prelude.{◌≡◌, ℕ, ◌*◌, ◌≤◌, ◌⊎◌, Bool, false, List, [], ◌∷◌, ◌++◌, drop, length, map, slice_get, slice_set, Option, Some, None, Ok, true, Contains, find, is_some, ◌<◌}
+use Rattle.rina_alloc.specs.declared.message.FlowMessage.{FlowMessage}
 use Rattle.rina_enrol.specs.declared.message.LinkMessage.{LinkMessage}
-use Rattle.rina_enrol.specs.Messages.{IsInRange, IsSpelled}
 use Rattle.rina_newest.specs.Newest.{kept_at, value_at}
 use Rattle.rina_agent.specs.declared.agent.Agent.{Agent}
 use Rattle.rina_agent.specs.declared.message.ManagementMessage.{ManagementMessage}
-use Rattle.rina_agent.specs.declared.message.ManagementMessage.TheVariants.{ToNeighbour, ToMember}
+use Rattle.rina_agent.specs.declared.message.ManagementMessage.TheVariants.{ToMember}
 use Rattle.rina_agent.specs.declared.state.MemberState.TheVariants.{Enrolled}
 use Rattle.rina_agent.specs.Agenda.{first_on, without_first}
 use Rattle.rina_agent.specs.Counts.{spent}
@@ -17,10 +17,10 @@ use Rattle.rina_dir.specs.Directory.{key_of}
 use Rattle.rina_plan.specs.declared.dif.LinkPlan.{LinkPlan}
 use Rattle.rina_data.specs.declared.settings.Member.{Member}
 use Rattle.rina_member.specs.Knowing.{IsLaidOut, SameEdges, all_claims}
-use Rattle.rina_member.specs.Managements.{entry_of, takes_item}
+use Rattle.rina_member.specs.Managements.{IsSdu, IsSduOf, entry_of, takes_item}
 use Rattle.rina_member.specs.Short.{IsShort}
 use Rattle.rina_member.specs.Start.{HasLinksIfStatic, start_items}
-use Rattle.rina_flood.specs.Network.{Side, Near, other, Unmade, There, Gone, Network, Row, link_at, waiting_at, MayLose, IsRun, after_rows, IsStart}
+use Rattle.rina_flood.specs.Network.{Side, Near, other, Unmade, There, Gone, Network, Row, link_at, waiting_at, MayLose, IsRun, after_rows, IsStart, with_invoke, with_message}
 use Rattle.rina_flood.specs.Laws.{TellsLinks, TellsNone}
 use Rattle.rina_flood.specs.Static.{AreEnds, AreFirst, AreOfDif, LinkEnd, end_place}
 
@@ -39,24 +39,18 @@ pub record MembersSeen : Type 0 where
 
 -- Messages as texts
 
--- a message of a neighbour is written so; a message about a flow is none of these
-abbrev pub IsText : ManagementMessage → List ℕ → Type 0
-IsText (ToNeighbour m) text = IsInRange m × IsSpelled m text
-IsText (ToMember m) text = ⊥
-
--- messages are written so, one by one
+-- these texts are the bytes of messages, one by one
 abbrev pub AreTexts : List ManagementMessage → List (List ℕ) → Type 0
 AreTexts [] [] = Unit {0}
 AreTexts [] (text ∷ texts) = ⊥
 AreTexts (m ∷ ms) [] = ⊥
-AreTexts (m ∷ ms) (text ∷ texts) = IsText m text × AreTexts ms texts
+AreTexts (m ∷ ms) (text ∷ texts) = IsSduOf m text × AreTexts ms texts
 
--- a text is that of a short message to a neighbour
+-- a text is that of a short message, to a neighbour or about a flow
 pub record IsShortText (text : List ℕ) : Type 0 where
-  pub message : LinkMessage
-  pub in_range : IsInRange message
-  pub spelled : IsSpelled message text
-  pub short : IsShort (ToNeighbour message)
+  pub message : ManagementMessage
+  pub is_sdu : IsSduOf message text
+  pub short : IsShort message
 
 -- so is each text at each place
 abbrev pub AreShortTexts : (ℕ → List (List ℕ)) → Type 0
@@ -99,7 +93,6 @@ pub record IsRunOf (is_static : Bool) (plans : List LinkPlan) (s : MembersSeen) 
   pub start : Network
   pub rows : List Row
   pub starts : IsStart start (start_items is_static s.members plans)
-  pub fresh : (i : ℕ) → ((start.agents i).last_count ≡ 0) × ((start.agents i).last_invoke ≡ 0)
   pub tells : is_static ≡ true → (m : Member) → Contains s.members m → TellsLinks start m.addr
   pub linked : HasFirstLinks start (first_links is_static plans)
   pub tells_none : is_static ≡ false → (m : Member) → Contains s.members m → TellsNone start m.addr
@@ -240,8 +233,8 @@ pub record TakesEntry (old new : MembersSeen) : Type 0 where
   pub sent : AreSame old.sent new.sent
   pub got : AreSame old.got new.got
 
--- the first message that waits for a link at an end that is there, a short one to a neighbour, is offered there as it is written, and waits no
--- more; the tick fits in 32 bits
+-- the first message that waits for a link at an end that is there, a short one to a neighbour or about a flow, is offered there as it is
+-- written, and waits no more
 pub record OffersMessage (old new : MembersSeen) : Type 0 where
   pub link : ℕ
   pub side : Side
@@ -250,12 +243,11 @@ pub record OffersMessage (old new : MembersSeen) : Type 0 where
   pub at : IsAgentAt old link side end agent
   pub number : ℕ
   pub there : end.state ≡ There number
-  pub early : old.now < 2 ^ 32
-  pub message : LinkMessage
-  pub short : IsShort (ToNeighbour message)
-  pub first : first_on number agent.agenda ≡ Some (record { link = number; message = ToNeighbour message })
+  pub message : ManagementMessage
+  pub short : IsShort message
+  pub first : first_on number agent.agenda ≡ Some (record { link = number; message = message })
   pub text : List ℕ
-  pub written : IsSpelled message text
+  pub written : IsSduOf message text
   pub stays : Stays old new
   pub now : new.now ≡ old.now
   pub agents : new.agents ≡ slice_set old.agents end.member (record agent { agenda = without_first number agent.agenda })
@@ -275,7 +267,7 @@ pub record HandlesMessage (old new : MembersSeen) : Type 0 where
   pub text : List ℕ
   pub next : slice_get (old.sent (end_place link side)) (length (old.got (end_place link (other side)))) ≡ Some text
   pub message : LinkMessage
-  pub read : (m : LinkMessage) → IsInRange m → IsSpelled m text → m ≡ message
+  pub written : IsSdu message text
   pub after : Agent
   pub handles : handled agent old.now number message ≡ Ok after
   pub stays : Stays old new
@@ -283,6 +275,52 @@ pub record HandlesMessage (old new : MembersSeen) : Type 0 where
   pub agents : new.agents ≡ slice_set old.agents end.member after
   pub sent : AreSame old.sent new.sent
   pub got : Adds (end_place link (other side)) text old.got new.got
+
+-- the text behind those that were handled of one end is that of no message of a neighbour: it counts as handled at the other end, which is
+-- there, and the member there stays as it is
+pub record PassesOver (old new : MembersSeen) : Type 0 where
+  pub link : ℕ
+  pub side : Side
+  pub end : LinkEnd
+  pub agent : Agent
+  pub at : IsAgentAt old link (other side) end agent
+  pub number : ℕ
+  pub there : end.state ≡ There number
+  pub text : List ℕ
+  pub next : slice_get (old.sent (end_place link side)) (length (old.got (end_place link (other side)))) ≡ Some text
+  pub none : (m : LinkMessage) → IsSdu m text → ⊥
+  pub stays : Stays old new
+  pub now : new.now ≡ old.now
+  pub agents : new.agents ≡ old.agents
+  pub sent : AreSame old.sent new.sent
+  pub got : Adds (end_place link (other side)) text old.got new.got
+
+-- the member at a place lets a short message about a flow wait, behind its agenda, for a link of its own
+pub record PostsForMember (old new : MembersSeen) : Type 0 where
+  pub place : ℕ
+  pub agent : Agent
+  pub is_agent : slice_get old.agents place ≡ Some agent
+  pub number : ℕ
+  pub linked : is_some (find (is_numbered number) agent.links) ≡ true
+  pub message : FlowMessage
+  pub short : IsShort (ToMember message)
+  pub stays : Stays old new
+  pub now : new.now ≡ old.now
+  pub agents : new.agents ≡ slice_set old.agents place (with_message agent number message)
+  pub sent : AreSame old.sent new.sent
+  pub got : AreSame old.got new.got
+
+-- the member at a place draws an invoke id, where one is left
+pub record DrawsInvoke (old new : MembersSeen) : Type 0 where
+  pub place : ℕ
+  pub agent : Agent
+  pub is_agent : slice_get old.agents place ≡ Some agent
+  pub room : spent 1 agent.last_invoke ≡ None
+  pub stays : Stays old new
+  pub now : new.now ≡ old.now
+  pub agents : new.agents ≡ slice_set old.agents place (with_invoke agent)
+  pub sent : AreSame old.sent new.sent
+  pub got : AreSame old.got new.got
 
 -- members as they start are those of a run
 abbrev pub StartIsRun : Type 0

@@ -174,8 +174,10 @@ called n i e = record n {
 pub data Row : Type 0 where
   -- a member makes an item of its own, such as a directory entry
   Make : (i : ℕ) (key : List ℕ) (value : Option (List ℕ)) → Row
-  -- a message about a flow is put on a link, among the others
-  Put : (link : ℕ) (side : Side) (number : ℕ) (m : FlowMessage) → Row
+  -- a message about a flow is put on a link of a member, among the others
+  Put : (i number : ℕ) (m : FlowMessage) → Row
+  -- a member draws an invoke id, for a message about a flow
+  Draw : (i : ℕ) → Row
   -- the first message that waits for a link is taken, and sent
   Take : (link : ℕ) (side : Side) (number : ℕ) (m : ManagementMessage) → Row
   -- the first message of a direction is handled at its other end
@@ -196,6 +198,10 @@ pub data Row : Type 0 where
 -- a message about a flow is put behind those that wait for a link
 abbrev pub with_message : Agent → ℕ → FlowMessage → Agent
 with_message a link m = record a { agenda = a.agenda ++ record { link = link; message = ToMember m } ∷ [] }
+
+-- an invoke id is drawn
+abbrev pub with_invoke : Agent → Agent
+with_invoke a = record a { last_invoke = a.last_invoke + 1 }
 
 -- a message comes to a member: one for neighbours is handled, one about a flow is none of its items
 abbrev pub comes : ManagementMessage → Network → ℕ → ℕ → Network
@@ -232,7 +238,8 @@ laid n link side number i j = record n { ends = put_ends link side i j n.ends; s
 
 abbrev pub happens : Network → Row → Network
 happens n (Make i key value) = called n i (Makes n.now key value)
-happens n (Put link side number m) = record n { agents = put_agent (n.ends link side) (with_message (n.agents (n.ends link side)) number m) n.agents }
+happens n (Put i number m) = record n { agents = put_agent i (with_message (n.agents i) number m) n.agents }
+happens n (Draw i) = record n { agents = put_agent i (with_invoke (n.agents i)) n.agents }
 happens n (Take link side number m) = called (record n { sent = put_sent link side (n.sent link side ++ m ∷ []) n.sent }) (n.ends link side) (Takes number)
 happens n (Handle link side number m rest) = comes m (record n { sent = put_sent link side rest n.sent }) (n.ends link (other side)) number
 happens n (Lose link side number) = called n (n.ends link side) (Loses n.now number)
@@ -265,12 +272,13 @@ pub record MayBeKnown (n : Network) (x : Item) : Type 0 where
 abbrev pub MayLose : Agent → ℕ → Type 0
 MayLose a number = was_up (find (is_numbered number) a.links) ≡ true → spent 1 a.last_count ≡ None
 
--- When a row may happen: an end at which it happens is there, a message about a flow is put on a link that its member has, a call is not
--- refused, the message that is taken or handled is the first one, an end is gone only where its member lost the link, a connection loses
+-- When a row may happen: an end at which it happens is there, a message about a flow is put on a link that its member has, a call and the
+-- draw of an invoke id are not refused, the message that is taken or handled is the first one, an end is gone only where its member lost the link, a connection loses
 -- messages only where an end has lost the link, and an end that is made has a new number. The end that is made second is so before the first is up
 abbrev pub May : Network → Row → Type 0
 May n (Make i key value) = spent 1 (n.agents i).last_count ≡ None
-May n (Put link side number m) = (n.states link side ≡ There number) × (is_some (find (is_numbered number) (n.agents (n.ends link side)).links) ≡ true)
+May n (Put i number m) = is_some (find (is_numbered number) (n.agents i).links) ≡ true
+May n (Draw i) = spent 1 (n.agents i).last_invoke ≡ None
 May n (Take link side number m) = (n.states link side ≡ There number) × (first_on number (n.agents (n.ends link side)).agenda ≡ Some (record { link = number; message = m }))
 May n (Handle link side number m rest) = (n.states link (other side) ≡ There number) × (n.sent link side ≡ m ∷ rest)
 May n (Lose link side number) = (n.states link side ≡ There number) × MayLose (n.agents (n.ends link side)) number

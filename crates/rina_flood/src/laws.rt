@@ -4,7 +4,7 @@ ghost use Rattle.rina_flood.specs.Coming.{WhatComes};
 ghost use Rattle.rina_flood.specs.Gap.{GapBreaks};
 ghost use Rattle.rina_flood.specs.Journals.{ArrivalsAddNone, OffersAdd, OthersAddNone, PassesAdd};
 ghost use Rattle.rina_flood.specs.Laws.{DirectionsOwe, LostIsGone, NewestIsKept, NotBack, OlderIsNothing, OnlyMadeIsSent, OrderIsNothing, QuietIsEqual, QuietTellsLinks};
-ghost use Rattle.rina_flood.specs.Members.{ClaimsLink, GoesOn, HandlesMessage, JoinsLink, KeepsRun, LosesLinkAt, MakesEntryAt, OffersMessage, QuietMembersAgree, QuietMembersClaim, StartIsRun, TakesEntry};
+ghost use Rattle.rina_flood.specs.Members.{ClaimsLink, DrawsInvoke, GoesOn, HandlesMessage, JoinsLink, KeepsRun, LosesLinkAt, MakesEntryAt, OffersMessage, PassesOver, PostsForMember, QuietMembersAgree, QuietMembersClaim, StartIsRun, TakesEntry};
 ghost use Rattle.rina_flood.specs.Sample.{SampleSettles};
 ghost use Rattle.rina_flood.specs.Static.{EntriesAreOne, MembersStart, OthersTellNone, RowsLeaveLinks, StaticTellsLinks};
 
@@ -72,8 +72,9 @@ pub fn a_dif_tells_links_and_entries()
 {}
 
 /// The members of a DIF are a network after some run: as they start, as the clock goes on, and after the loss of a link at one of its ends,
-/// a directory entry that one makes or that all take, a message that is offered to a link and one that is handled; and where a member asks
-/// for an enrolment on a new link, and where the member at its other end gets that link. So it is in every DIF: enrolled members of a static
+/// a directory entry that one makes or that all take, a message that is offered to a link, one that is handled and one that is passed
+/// over, a message about a flow that is to wait, and the draw of an invoke id; and where a member asks for an enrolment on a new link, and
+/// where the member at its other end gets that link. So it is in every DIF: enrolled members of a static
 /// one may join each other by a further link. So where all is quiet on a walk of links, the members at its ends keep the same items, which
 /// claim the same edges, and each keeps the other's link state as the other's links are now.
 pub fn members_are_a_network()
@@ -84,6 +85,9 @@ pub fn members_are_a_network()
     ensures takes { KeepsRun TakesEntry }
     ensures offers { KeepsRun OffersMessage }
     ensures handles { KeepsRun HandlesMessage }
+    ensures passes { KeepsRun PassesOver }
+    ensures posts { KeepsRun PostsForMember }
+    ensures draws { KeepsRun DrawsInvoke }
     ensures joins { KeepsRun JoinsLink }
     ensures claims_link { KeepsRun ClaimsLink }
     ensures quiet { QuietMembersAgree }
@@ -92,7 +96,7 @@ pub fn members_are_a_network()
     rina_newest::newest_of_all_takes();
 }
 
-/// What comes over a link of a DIF is a short message of one of its members. Where it brings the link state of the member to which
+/// A message of a neighbour that comes over a link of a DIF is a short one of one of its members. Where it brings the link state of the member to which
 /// it comes, this keeps one as new: a member alone makes its link state. On a link of the plan of a static DIF each brings an item.
 pub fn what_comes_was_made_by_a_member()
     ensures { WhatComes }

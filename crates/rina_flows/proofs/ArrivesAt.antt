@@ -89,7 +89,7 @@ module _ (g : Config) (now : ℕ) (cloud : ℕ → Pdu → Type 0) (held : List 
           inbound = inbound;
           arrived = (x.cause, x.dropped, ap (λ (es : List Entry). slice_set ends at (record end { got = es })) (sym got), refl, x.settled, x.in_order);
         };
-        tied = tied_after g now ends conns lines at from end end' conn new line line' journal tied (record { is_at = is_at; inbound = inbound; const = record { flow = refl; role = refl; port = refl; app = refl; peer = refl; cube = refl }; sending = a.sending; sender = found_sender c line; clock = found_clock c line }) (λ still. subst R (sym a.sending) x.receives);
+        tied = tied_after g now ends conns lines at from end end' conn new line line' journal tied (record { is_at = is_at; inbound = inbound; const = record { flow = refl; role = refl; port = refl; app = refl; peer = refl; cube = refl }; awake = λ waits. absurd (let clash = allocated in cc); sending = a.sending; sender = found_sender c line; clock = found_clock c line }) (λ still. subst R (sym a.sending) x.receives);
         count = x.count;
       }
 

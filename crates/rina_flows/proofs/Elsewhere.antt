@@ -37,6 +37,15 @@ by_both Changes old mid new h g i other = g i other ∙ h i other
 pub by_more : {A : Type 0} (Few Many : ℕ → Type 0) (old new : List A) → ((i : ℕ) → Few i → Many i) → SameBut Few old new → SameBut Many old new
 by_more Few Many old new all h i other = h i (λ few. other (all i few))
 
+-- one thing was added
+pub by_adding_one : {A : Type 0} (old new : List A) (x : A) → new ≡ old ++ x ∷ [] → SameBut (λ i. length old ≤ i) old new
+by_adding_one old new x is i other = ap (λ xs. slice_get xs i) is ∙ before old x i other
+  where
+    before : {A : Type 0} (xs : List A) (x : A) (i : ℕ) → (length xs ≤ i → ⊥) → slice_get (xs ++ x ∷ []) i ≡ slice_get xs i
+    before [] x i within = absurd (within (omega arith))
+    before (z ∷ xs) x zero within = refl
+    before (z ∷ xs) x (suc i) within = before xs x i (λ le. within (omega (arith, le)))
+
 -- two things were added
 pub by_adding : {A : Type 0} (old new : List A) (x y : A) → new ≡ old ++ x ∷ y ∷ [] → SameBut (λ i. length old ≤ i) old new
 by_adding old new x y is i other = ap (λ xs. slice_get xs i) is ∙ before old x y i other

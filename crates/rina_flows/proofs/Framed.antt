@@ -5,11 +5,12 @@ use Rattle.rina_data.specs.Configs.{Config}
 use Rattle.rina_dif_law.specs.Ids.{Ids}
 use Rattle.rina_dif_law.proofs.Journals.{IsConst, const_refl, partner_was}
 use Rattle.rina_iface.specs.declared.ends.End.{End}
-use Rattle.rina_iface.specs.declared.state.PortState.TheVariants.{Allocated}
+use Rattle.rina_iface.specs.declared.state.PortState.TheVariants.{Allocated, Pending}
 use Rattle.rina_iface.specs.Journal.{At}
 use Rattle.rina_iface.proofs.Changed.{set_at, slice_get-set_same}
 use Rattle.rina_law.specs.Direction.{Direction}
-use Rattle.rina_flows.specs.Tied.{IsAt, IsInboundAt, IsReceiving, IsSending, IsTied, conns_of, ids_of, inward}
+use Rattle.rina_flows.specs.Tied.{IsAt, IsInboundAt, IsNewAt, IsReceiving, IsSending, IsTied, IsUnused, conns_of, ids_of, inward}
+use Rattle.rina_flows.proofs.Unused.{unused_was}
 
 -- Lists
 
@@ -62,6 +63,16 @@ pub record IsChange (g : Config) (now : ℕ) (ends : List End) (conns : List Con
   pub sends_there : (k : Conn) → from ≢ at → slice_get conns from ≡ Some k → IsSending g now k line → IsSending g now k line'
   pub receives_here : (i : ℕ) (l : Direction) → end'.state ≡ Allocated → IsInboundAt ends (slice_set lines from line') end i l → IsReceiving (inward g conn') now (ids_of conn') conn' l
   pub receives_there : (i : ℕ) (e : End) (k : Conn) → i ≢ at → IsAt ends conns i e k → IsInboundAt ends lines e from line → IsReceiving (inward g k) now (ids_of k) k line → IsReceiving (inward g k) now (ids_of k) k line'
+  pub unused : IsUnused ends end' → IsNewAt g end' conn'
+  pub waits : end'.state ≡ Pending → end.state ≡ Pending
+  pub early : line'.state_from ≡ line.state_from
+
+-- where the direction changed, it is as early as it was
+early_set : (ends : List End) (lines : List Direction) (from m : ℕ) (e : End) (line line' l : Direction) → slice_get lines from ≡ Some line → line'.state_from ≡ line.state_from → ((n : ℕ) (o : Direction) → IsInboundAt ends lines e n o → o.state_from ≡ 0) → IsInboundAt ends (slice_set lines from line') e m l → l.state_from ≡ 0
+early_set ends lines from m e line line' l is same early inb = elim (set_at lines from m line line' l is inb.is_line) [
+  | inl u ↦ ap (λ (x : Direction). x.state_from) u.1 ∙ same ∙ early from line (record { partner = inb.partner; is_partner = subst (λ (n : ℕ). At ends n inb.partner) u.0 inb.is_partner; partners = inb.partners; is_line = is })
+  | inr u ↦ early m l (record { partner = inb.partner; is_partner = inb.is_partner; partners = inb.partners; is_line = u.1 })
+]
 
 pub tied_set : (g : Config) (now : ℕ) (ends : List End) (conns : List Conn) (lines : List Direction) (at from : ℕ) (end end' : End) (conn conn' : Conn) (line line' : Direction) → IsTied g now ends conns lines → IsChange g now ends conns lines at from end end' conn conn' line line' → IsTied g now (slice_set ends at end') (slice_set conns at conn') (slice_set lines from line')
 tied_set g now ends conns lines at from end end' conn conn' line line' t ch = record {
@@ -91,5 +102,22 @@ tied_set g now ends conns lines at from end end' conn conn' line line' t ch = re
               subst (λ (x : Direction). IsReceiving (inward g k) now (ids_of k) k x) (sym u.1) (ch.receives_there i e k s.0 there' from' (t.receives i from e k line there' state from'))
           | inr u ↦ t.receives i m e k l there' state (record { partner = was.partner; is_partner = was.is_partner; partners = was.partners; is_line = u.1 })
         ]
+  ];
+  unused = λ i e k h unused. elim (set_at ends at i end end' e ch.is_at.end_is h.end_is) [
+    | inl s ↦
+        let k_is : k ≡ conn' = elim (set_at conns at i conn conn' k ch.is_at.conn_is h.conn_is) [ inl u ↦ u.1 | inr u ↦ absurd (u.0 s.0) ] in
+        let was : IsUnused ends end' = unused_was ends at end end' ch.is_at.end_is ch.const end' (subst (IsUnused (slice_set ends at end')) s.1 unused) in
+        subst (λ (x : Conn). IsNewAt g e x) (sym k_is) (subst (λ (x : End). IsNewAt g x conn') (sym s.1) (ch.unused was))
+    | inr s ↦
+        let k_was : slice_get conns i ≡ Some k = elim (set_at conns at i conn conn' k ch.is_at.conn_is h.conn_is) [ inl u ↦ absurd (s.0 u.0) | inr u ↦ u.1 ] in
+        t.unused i e k (record { end_is = s.1; conn_is = k_was }) (unused_was ends at end end' ch.is_at.end_is ch.const e unused)
+  ];
+  early = λ i m e l h waits inb. elim (set_at ends at i end end' e ch.is_at.end_is h) [
+    | inl s ↦
+        let was = inbound_was ends (slice_set lines from line') at end end' end e m l ch.is_at.end_is ch.const (subst (IsConst end) (sym s.1) ch.const) inb in
+        early_set ends lines from m end line line' l ch.is_line ch.early (λ n o. t.early at n end o ch.is_at.end_is (ch.waits (ap (λ (x : End). x.state) (sym s.1) ∙ waits))) was
+    | inr s ↦
+        let was = inbound_was ends (slice_set lines from line') at end end' e e m l ch.is_at.end_is ch.const (const_refl e) inb in
+        early_set ends lines from m e line line' l ch.is_line ch.early (λ n o. t.early i n e o s.1 waits) was
   ];
 }

@@ -22,7 +22,7 @@ use Rattle.rina_dtp.specs.Source.{key_at}
 use Rattle.rina_dtp.proofs.Came.{present_same}
 use Rattle.rina_iface.specs.declared.ends.End.{End}
 use Rattle.rina_iface.specs.declared.state.PortState.{PortState}
-use Rattle.rina_iface.specs.declared.state.PortState.TheVariants.{Allocated}
+use Rattle.rina_iface.specs.declared.state.PortState.TheVariants.{Allocated, Pending}
 use Rattle.rina_iface.specs.Later.{Moves}
 use Rattle.rina_iface.proofs.Changed.{slice_set-same}
 use Rattle.rina_law.specs.Constants.{Constants}
@@ -140,8 +140,12 @@ forgets_at g now ends conns lines at from end conn new line taken journal tied i
         in_order = subst (λ (ds : List (Key × Cause)). InOrder (offs_of ds)) all (gone_order c now (ids_of conn) conn line h gone);
         lines_are = refl;
       };
-      tied = tied_after g now ends conns lines at from end end conn new line line' journal tied (record { is_at = is_at; inbound = inbound; const = record { flow = refl; role = refl; port = refl; app = refl; peer = refl; cube = refl }; sending = sending; sender = refl; clock = refl }) (λ still. subst R (sym sending) (receiving_forgot c now (ids_of conn) conn new line taken h gone drained none plan waiting));
+      tied = tied_after g now ends conns lines at from end end conn new line line' journal tied (record { is_at = is_at; inbound = inbound; const = record { flow = refl; role = refl; port = refl; app = refl; peer = refl; cube = refl }; awake = λ waits. absurd (let clash = allocated in cc); sending = sending; sender = refl; clock = refl }) (λ still. subst R (sym sending) (receiving_forgot c now (ids_of conn) conn new line taken h gone drained none plan waiting));
     }
+
+-- an allocated end never waits again
+no_wait : (old new : PortState) → old ≡ Allocated → Moves old new → new ≡ Pending → ⊥
+no_wait old new is moves waits = let clash : Pending ≡ Allocated = subst (λ (s : PortState). Moves s Pending) is (subst (Moves old) waits moves) in cc
 
 -- an end is closed: what its connection held is written off, and it is tied to its sender alone
 pub record HasEnded (g : Config) (now : ℕ) (ends : List End) (conns : List Conn) (lines : List Direction) (at : ℕ) (end : End) (state : PortState) (offs : List Off) (new : Conn) : Type 0 where
@@ -153,7 +157,7 @@ pub ends_at : (g : Config) (now : ℕ) (ends : List End) (conns : List Conn) (li
 ends_at g now ends conns lines at from end conn new line state taken journal tied is_at allocated moves stops inbound all sending =
     let place = place_of g now ends conns lines at end conn tied is_at in
     let end' : End = record end { state = state } in
-    let again = tied_after g now ends conns lines at from end end' conn new line line journal tied (record { is_at = is_at; inbound = inbound; const = record { flow = refl; role = refl; port = refl; app = refl; peer = refl; cube = refl }; sending = sending; sender = refl; clock = refl }) (λ still. absurd (stops still)) in
+    let again = tied_after g now ends conns lines at from end end' conn new line line journal tied (record { is_at = is_at; inbound = inbound; const = record { flow = refl; role = refl; port = refl; app = refl; peer = refl; cube = refl }; awake = λ waits. no_wait end.state state allocated moves waits; sending = sending; sender = refl; clock = refl }) (λ still. absurd (stops still)) in
     record {
       stops = record {
         end = end;

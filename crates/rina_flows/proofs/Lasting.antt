@@ -26,7 +26,7 @@ use Rattle.rina_law.specs.Direction.{Direction, start}
 use Rattle.rina_law.specs.Lists.{In}
 use Rattle.rina_law.specs.Pieces.{empty_joiner}
 use Rattle.rina_law.specs.Receiver.{no_state}
-use Rattle.rina_flows.specs.Tied.{IsInboundAt, IsReceiving, IsSending, IsTied, ids_of, inward, outward}
+use Rattle.rina_flows.specs.Tied.{IsInboundAt, IsNewAt, IsReceiving, IsSending, IsTied, ids_of, inward, outward}
 use Rattle.rina_flows.proofs.Added.{AreNewEnds}
 use Rattle.rina_flows.proofs.Ordered.{rise_none}
 use Rattle.rina_flows.proofs.Receives.{none_broken}
@@ -64,6 +64,11 @@ tied_later g now later ends conns lines le tied = record {
       let o = map_at (ticked (later - now)) lines from line inbound.is_line in
       let was : IsInboundAt ends lines end from o.0 = record { partner = inbound.partner; is_partner = inbound.is_partner; partners = inbound.partners; is_line = o.1 } in
       subst (IsReceiving (inward g conn) later (ids_of conn) conn) (sym o.2) (receiving_later (inward g conn) now later (ids_of conn) conn o.0 le (tied.receives at from end conn o.0 is_at allocated was));
+  unused = tied.unused;
+  early = λ at from end line is waits inbound.
+      let o = map_at (ticked (later - now)) lines from line inbound.is_line in
+      let was : IsInboundAt ends lines end from o.0 = record { partner = inbound.partner; is_partner = inbound.is_partner; partners = inbound.partners; is_line = o.1 } in
+      ap (λ (x : Direction). x.state_from) o.2 ∙ tied.early at from end o.0 is waits was;
 }
 
 -- New connections
@@ -101,14 +106,20 @@ sending_new g now cube peer conn new is_cube = record {
   sender = new.sends.stands (outward g conn) (record { cube = refl; piece = new.piece_is; cep = refl; max_is = refl });
 }
 
+-- it is new at its end, which got nothing
+pub new_at : (g : Config) (cube : Cube) (peer : Peer) (end : End) (conn : Conn) → IsNewConn cube (piece_size g) (greatest g) peer conn → end.got ≡ [] → IsNewAt g end conn
+new_at g cube peer end conn new got =
+    let N : Cube → Peer → Type 0 = λ x p. IsNewConn x (piece_size g) (greatest g) p conn in
+    record { new = subst (λ (p : Peer). N conn.sending.form.cube p) (sym new.peer_is) (subst (λ (x : Cube). N x peer) (sym new.cube_is) new); got = got }
+
 -- by the other end
 abbrev pub far_peer : Peer → Peer
 far_peer peer = record { own = peer.far; far = peer.own; scep = peer.dcep; dcep = peer.scep }
 
 -- the connections of a new flow, one at each end
-pub new_flow : (g : Config) (now : ℕ) (ends : List End) (asker far : End) (cube : Cube) (peer : Peer) (conn its : Conn) → IsNewConn cube (piece_size g) (greatest g) peer conn → IsNewConn cube (piece_size g) (greatest g) (far_peer peer) its → cube_by cube.id g.cubes ≡ Some cube → ((i : ℕ) (e : End) → At ends i e → e.flow ≢ asker.flow) → far.flow ≡ asker.flow →
+pub new_flow : (g : Config) (now : ℕ) (ends : List End) (asker far : End) (cube : Cube) (peer : Peer) (conn its : Conn) → IsNewConn cube (piece_size g) (greatest g) peer conn → IsNewConn cube (piece_size g) (greatest g) (far_peer peer) its → cube_by cube.id g.cubes ≡ Some cube → ((i : ℕ) (e : End) → At ends i e → e.flow ≢ asker.flow) → far.flow ≡ asker.flow → asker.got ≡ [] → far.got ≡ [] →
     AreNewEnds g now ends asker far conn its (ticked now (start (outward g conn))) (ticked now (start (outward g its)))
-new_flow g now ends asker far cube peer conn its new there is_cube fresh same_flow =
+new_flow g now ends asker far cube peer conn its new there is_cube fresh same_flow got far_got =
     let by : Cube → ℕ → Constants = λ x cep. record { cube = x; piece = piece_size g; max = greatest g; cep = cep } in
     let cubes : conn.sending.form.cube ≡ its.sending.form.cube = new.cube_is ∙ sym there.cube_is in
     let here : inward g conn ≡ outward g its = ap (λ x. by x conn.sending.form.peer.dcep) cubes ∙ ap (by its.sending.form.cube) (ap (λ (p : Peer). p.dcep) new.peer_is ∙ sym (ap (λ (p : Peer). p.scep) there.peer_is)) in
@@ -120,4 +131,8 @@ new_flow g now ends asker far cube peer conn its new there is_cube fresh same_fl
       sends_back = sending_new g now cube (far_peer peer) its there is_cube;
       receives = subst (λ (c : Constants). IsReceiving (inward g conn) now (ids_of conn) conn (ticked now (start c))) here (receiving_new g now cube peer (greatest g) conn new);
       receives_there = subst (λ (c : Constants). IsReceiving (inward g its) now (ids_of its) its (ticked now (start c))) yonder (receiving_new g now cube (far_peer peer) (greatest g) its there);
+      new = new_at g cube peer asker conn new got;
+      new_there = new_at g cube (far_peer peer) far its there far_got;
+      early = refl;
+      early_back = refl;
     }

@@ -1,6 +1,8 @@
 pub mod Added
 pub mod Alarmed
 pub mod Adding
+pub mod AddingFar
+pub mod Answered
 pub mod Arrived
 pub mod ArrivesAt
 pub mod Coming
@@ -33,6 +35,7 @@ pub mod Times
 pub mod GaveUp
 pub mod Told
 pub mod Unbroken
+pub mod Unused
 pub mod Waiting
 pub mod Welcome
 pub mod Writing

@@ -31,9 +31,10 @@ use Rattle.rina_dtcp.specs.Rows.{ready}
 use Rattle.rina_flows.specs.declared.flows.Flows.{Flows}
 use Rattle.rina_flows.specs.Calls.{Becomes, IsOffer, IsRefused, Offered, Offers}
 use Rattle.rina_flows.specs.Rows.{OffersAt}
-use Rattle.rina_flows.specs.Tied.{IsAt, IsInboundAt, IsSending, IsTied, conns_of, ids_by, ids_of, inward, outward}
+use Rattle.rina_flows.specs.Tied.{IsAt, IsInboundAt, IsSending, IsTied, IsUsed, conns_of, ids_by, ids_of, inward, outward}
 use Rattle.rina_flows.proofs.Framed.{ids_at, put_back, same_ids, tied_set}
 use Rattle.rina_flows.proofs.Restated.{receiving_conn, receiving_same}
+use Rattle.rina_flows.proofs.Unused.{unused_const}
 
 receiver_put_all : (c : Constants) (parts : List Part) (line : Line) → (put_all c parts line).receiver ≡ line.receiver
 receiver_put_all c [] line = refl
@@ -54,7 +55,7 @@ elsewhere ends lines at i end l is h e =
     not_itself end (subst (λ (x : End). IsPartner x end) same h.partners)
 
 -- the tie after an SDU was accepted
-module _ (g : Config) (now at : ℕ) (ends : List End) (conns : List Conn) (lines : List Direction) (end : End) (conn conn' : Conn) (line : Direction) (parts : List Part) (made : Made) (t : IsTied g now ends conns lines) (is : IsAt ends conns at end conn) (is_line : slice_get lines at ≡ Some line) (m : IsMade (outward g conn) now parts line.line.sender conn.sending made conn'.sending) (rx : conn'.rx ≡ conn.rx) (plan : conn'.plan ≡ conn.plan) (waiting : conn'.waiting ≡ conn.waiting) where
+module _ (g : Config) (now at : ℕ) (ends : List End) (conns : List Conn) (lines : List Direction) (end : End) (conn conn' : Conn) (line : Direction) (parts : List Part) (made : Made) (t : IsTied g now ends conns lines) (is : IsAt ends conns at end conn) (is_line : slice_get lines at ≡ Some line) (m : IsMade (outward g conn) now parts line.line.sender conn.sending made conn'.sending) (rx : conn'.rx ≡ conn.rx) (plan : conn'.plan ≡ conn.plan) (waiting : conn'.waiting ≡ conn.waiting) (used : IsUsed ends at) where
   sending : IsSending g now conn line
   sending = t.sends at conn line is.conn_is is_line
 
@@ -86,6 +87,9 @@ module _ (g : Config) (now at : ℕ) (ends : List End) (conns : List Conn) (line
           | inr u ↦ receiving_conn g now conn conn' l m.form rx plan waiting (t.receives at i end conn l is state (record { partner = h.partner; is_partner = h.is_partner; partners = h.partners; is_line = u.1 }))
         ];
     receives_there = λ i e k other is' inb h. receiving_same (inward g k) now (ids_of k) k line (offered (outward g conn) parts line) (offered_receiver (outward g conn) parts line.line) refl refl refl refl h;
+    unused = λ unused. absurd (used end is.end_is (unused_const ends end (with_sent end (offered_entry (outward g conn) parts line)) (record { flow = refl; role = refl; port = refl; app = refl; peer = refl; cube = refl }) (λ waits. waits) unused));
+    waits = λ waits. waits;
+    early = refl;
   })
 
   pub offers_at : (ends' : List End) → ends' ≡ slice_set ends at (with_sent end (offered_entry (outward g conn) parts line)) → OffersAt g ends (conns_of conns) lines at parts made.num made.pdus ends' (slice_set lines at (offered (outward g conn) parts line))
@@ -129,7 +133,7 @@ whole : (at : ℕ) (ends mid ends' : List End) (end : End) (sent' : List Entry) 
 whole at ends mid ends' end sent' is out back = put_back ends mid ends' at end (record end { sent = [] }) (record end { sent = sent' }) is (out end is) (λ e h same. back e h ∙ ap (λ (x : End). slice_set mid at (record x { sent = sent' })) same)
 
 pub offers_from : (now at : ℕ) (sdu : List ℕ) (ends mid ends' : List End) (conns conns' : List Conn) (sent sent' : List Entry) (result : Result Made OfferError) → at < length ends → at < length conns → ((e : End) → slice_get ends at ≡ Some e → sent ≡ e.sent) → ((e : End) → slice_get ends at ≡ Some e → mid ≡ slice_set ends at (record e { sent = [] })) → Offered now at sdu conns sent result conns' sent' → ((e : End) → slice_get mid at ≡ Some e → ends' ≡ slice_set mid at (record e { sent = sent' })) → Offers now at sdu (flows_of ends conns) result (flows_of ends' conns')
-offers_from now at sdu ends mid ends' conns conns' sent sent' (Ok made) lt lt' sent_is out o back = λ g lines t.
+offers_from now at sdu ends mid ends' conns conns' sent sent' (Ok made) lt lt' sent_is out o back = λ g lines t used.
     let e = there ends at lt in
     let end : End = e.0 in
     let k = there conns at lt' in
@@ -144,13 +148,13 @@ offers_from now at sdu ends mid ends' conns conns' sent sent' (Ok made) lt lt' s
     let entry = entry_is (outward g conn) now sdu line parts made.num sends.clock made'.2.num made'.1.1 in
     let are : ends' ≡ slice_set ends at (with_sent end (offered_entry (outward g conn) parts line)) =
     whole at ends mid ends' end sent' e.1 out back ∙ ap (λ (xs : List Entry). slice_set ends at (record end { sent = xs })) (o.1 ∙ ap (λ (xs : List Entry). xs ++ record { tick = now; num = made.num; bytes = sdu } ∷ []) (sent_is end e.1) ∙ ap (λ (x : Entry). end.sent ++ x ∷ []) entry) in
-    let tied = tied_offered g now at ends conns lines end conn b.0 line parts made t is l.1 made'.2 b.1.rx b.1.plan b.1.waiting in
+    let tied = tied_offered g now at ends conns lines end conn b.0 line parts made t is l.1 made'.2 b.1.rx b.1.plan b.1.waiting used in
     let tied' = subst (λ (xs : List End). IsTied g now xs (slice_set conns at b.0) (slice_set lines at (offered (outward g conn) parts line))) (sym are) tied in
     record {
       parts = parts;
       cut = (made'.1.0, made'.1.1);
       lines' = slice_set lines at (offered (outward g conn) parts line);
-      offers = offers_at g now at ends conns lines end conn b.0 line parts made t is l.1 made'.2 b.1.rx b.1.plan b.1.waiting ends' are;
+      offers = offers_at g now at ends conns lines end conn b.0 line parts made t is l.1 made'.2 b.1.rx b.1.plan b.1.waiting used ends' are;
       tied = subst (λ (xs : List Conn). IsTied g now ends' xs (slice_set lines at (offered (outward g conn) parts line))) (sym b.2) tied';
       ids = ap conns_of b.2 ∙ same_ids conns at conn b.0 k.1 (ap (λ (f : Form). ids_by f.peer f.cube.id) made'.2.form);
     }

@@ -1,5 +1,5 @@
 -- An SDU that is passed.
-use Rattle.std.proofs.Common.{◌≡◌, ℕ, ◌<◌, List, length, slice_get, slice_set, Option, Some, refl, sym, ◌∙◌, ap, subst, arith, inl, inr}
+use Rattle.std.proofs.Common.{◌≡◌, ℕ, ◌<◌, List, [], length, slice_get, slice_set, Option, Some, refl, sym, ◌∙◌, ap, subst, arith, inl, inr}
 use Rattle.rina_base.specs.declared.pdu.Pdu.{Pdu}
 use Rattle.rina_conn.specs.declared.conn.Conn.{Conn}
 use Rattle.rina_conn.specs.declared.form.Form.{Form}
@@ -23,10 +23,11 @@ use Rattle.rina_law.specs.declared.entry.Entry.{Entry}
 use Rattle.rina_law.specs.Direction.{Direction, Pass, happens}
 use Rattle.rina_law.specs.Pieces.{Sdu}
 use Rattle.rina_flows.specs.Calls.{Becomes, IsPass, PassesOne}
-use Rattle.rina_flows.specs.Tied.{IsAt, IsInboundAt, IsReceiving, IsTied, conns_of, ids_by, ids_of, inward}
+use Rattle.rina_flows.specs.Tied.{IsAt, IsInboundAt, IsReceiving, IsTied, IsUsed, conns_of, ids_by, ids_of, inward}
 use Rattle.rina_flows.proofs.Framed.{ids_at, same_ids, tied_set}
 use Rattle.rina_flows.proofs.Offered.{elsewhere, flows_of}
 use Rattle.rina_flows.proofs.Restated.{receiving_passed, sending_conn, sending_same}
+use Rattle.rina_flows.proofs.Unused.{unused_const}
 
 -- only one end receives from a place
 pub one_receiver : (now : ℕ) (ends : List End) (lines : List Direction) (at i from : ℕ) (end e : End) (line l : Direction) → IsJournal now ends → At ends at end → At ends i e → IsInboundAt ends lines end from line → IsInboundAt ends lines e from l → i ≡ at
@@ -42,8 +43,8 @@ one_receiver now ends lines at i from end e line l journal is is' inb inb' =
 pub one_sender : (now : ℕ) (ends : List End) (lines lines' : List Direction) (i from : ℕ) (end : End) (line l : Direction) → IsJournal now ends → IsInboundAt ends lines end from line → IsInboundAt ends lines' end i l → i ≡ from
 one_sender now ends lines lines' i from end line l journal inb h = one_partner now ends i from h.partner inb.partner end journal h.is_partner inb.is_partner h.partners inb.partners
 
-pub tied_passed : (g : Config) (now at from : ℕ) (ends : List End) (conns : List Conn) (lines : List Direction) (end : End) (conn conn' : Conn) (line : Direction) → IsJournal now ends → IsTied g now ends conns lines → IsAt ends conns at end conn → IsInboundAt ends lines end from line → line.passed < length line.inbox.got → IsPass now conn conn' → IsTied g now (slice_set ends at (with_passed end)) (slice_set conns at conn') (slice_set lines from (happens (inward g conn) line Pass))
-tied_passed g now at from ends conns lines end conn conn' line journal t is inb waits p =
+pub tied_passed : (g : Config) (now at from : ℕ) (ends : List End) (conns : List Conn) (lines : List Direction) (end : End) (conn conn' : Conn) (line : Direction) → IsJournal now ends → IsTied g now ends conns lines → IsAt ends conns at end conn → IsInboundAt ends lines end from line → line.passed < length line.inbox.got → IsPass now conn conn' → IsUsed ends at → IsTied g now (slice_set ends at (with_passed end)) (slice_set conns at conn') (slice_set lines from (happens (inward g conn) line Pass))
+tied_passed g now at from ends conns lines end conn conn' line journal t is inb waits p used =
     let line' : Direction = happens (inward g conn) line Pass in
     let far = beside ends conns from inb.partner t.alike inb.is_partner in
     let clock : line.line.clock ≡ now = (t.sends from far.0 line far.1 inb.is_line).clock in
@@ -72,6 +73,9 @@ tied_passed g now at from ends conns lines end conn conn' line journal t is inb 
         | inr u ↦ absurd (u.0 (one_sender now ends lines (slice_set lines from line') i from end line l journal inb h))
       ];
       receives_there = λ i e k other is' inb' h. absurd (other (one_receiver now ends lines at i from end e line line journal is.end_is is'.end_is inb inb'));
+      unused = λ unused. absurd (used end is.end_is (unused_const ends end (with_passed end) (record { flow = refl; role = refl; port = refl; app = refl; peer = refl; cube = refl }) (λ waits. waits) unused));
+      waits = λ waits. waits;
+      early = refl;
     })
 
 pub passes_from : (now at : ℕ) (ends ends' : List End) (conns conns' : List Conn) → at < length ends → at < length conns → ((e : End) → slice_get ends at ≡ Some e → e.taken < length e.got) → Becomes (IsPass now) at conns conns' → ((e : End) → slice_get ends at ≡ Some e → ends' ≡ slice_set ends at (with_passed e)) → PassesOne now at (flows_of ends conns) (flows_of ends' conns')
@@ -95,7 +99,11 @@ passes_from now at ends ends' conns conns' lt lt' waits become passed = λ g lin
     let is_conn : IsConn ends (conns_of conns) at end (ids_of conn) = record { end = e.1; ids_are = ids_at conns at conn k.1 } in
     let flow = journals g now cloud held ends (conns_of conns) lines own from at partner.other end line partner.stands e.1 l.1 inb.partners in
     let some : line.passed < length line.inbox.got = (let lt = waits end e.1 in let a = flow.passed in let b = ap (λ (es : List Entry). length es) flow.got in omega arith) in
-    let tied = tied_passed g now at from ends conns lines end conn b.0 line journal t is inb some b.1 in
+    let used : IsUsed ends at = λ o there' unused.
+    let same : o ≡ end = (let a = e.1 in cc) in
+    let got : end.got ≡ [] = ap (λ (z : End). z.got) (sym same) ∙ (t.unused at o conn (record { end_is = there'; conn_is = k.1 }) unused).got in
+    absurd (let lt = waits end e.1 in let none = ap (λ (es : List Entry). length es) got in omega arith) in
+    let tied = tied_passed g now at from ends conns lines end conn b.0 line journal t is inb some b.1 used in
     let tied' = subst (λ (xs : List End). IsTied g now xs (slice_set conns at b.0) lines') (sym (passed end e.1)) tied in
     record {
       lines' = lines';

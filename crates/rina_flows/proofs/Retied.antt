@@ -6,15 +6,16 @@ use Rattle.rina_conn.specs.Sending.{IsSender}
 use Rattle.rina_data.specs.Configs.{Config, cube_by}
 use Rattle.rina_dif_law.specs.Dif.{constants}
 use Rattle.rina_dif_law.specs.Standing.{IsJournal}
-use Rattle.rina_dif_law.proofs.Journals.{IsConst, const_refl, partner_was, was_end}
+use Rattle.rina_dif_law.proofs.Journals.{IsConst, const_refl, partner_const, partner_was, was_end}
 use Rattle.rina_dif_law.proofs.Own.{one_partner, partner_back}
 use Rattle.rina_iface.specs.declared.ends.End.{End}
-use Rattle.rina_iface.specs.declared.state.PortState.TheVariants.{Allocated}
+use Rattle.rina_iface.specs.declared.state.PortState.TheVariants.{Allocated, Pending}
 use Rattle.rina_iface.specs.Journal.{At, IsPartner}
 use Rattle.rina_iface.proofs.Changed.{set_at, slice_get-set_other, slice_get-set_same}
 use Rattle.rina_law.specs.Direction.{Direction}
 use Rattle.rina_law.specs.Sender.{Sender}
-use Rattle.rina_flows.specs.Tied.{IsAt, IsInboundAt, IsReceiving, IsSending, IsTied, ids_by, ids_of, inward}
+use Rattle.rina_flows.specs.Tied.{IsAt, IsInboundAt, IsNewAt, IsReceiving, IsSending, IsTied, IsUnused, ids_by, ids_of, inward}
+use Rattle.rina_flows.proofs.Unused.{unused_was}
 
 -- what it sends stays
 sends_same : (g : Config) (now : ℕ) (conn conn' : Conn) (line line' : Direction) → conn'.sending ≡ conn.sending → line'.line.sender ≡ line.line.sender → line'.line.clock ≡ line.line.clock → IsSending g now conn line → IsSending g now conn' line'
@@ -27,11 +28,12 @@ sends_same g now conn conn' line line' sending sender clock h =
       sender = subst (λ (m : Sender). S m conn'.sending) (sym sender) (subst (S line.line.sender) (sym sending) h.sender);
     }
 
--- an end, its connection, and the direction in which it receives, change
+-- an end, its connection, and the direction in which it receives, change. The end does not wait
 pub record Receives (ends : List End) (conns : List Conn) (lines : List Direction) (at from : ℕ) (end end' : End) (conn conn' : Conn) (line line' : Direction) : Type 0 where
   pub is_at : IsAt ends conns at end conn
   pub inbound : IsInboundAt ends lines end from line
   pub const : IsConst end end'
+  pub awake : end'.state ≢ Pending
   pub sending : conn'.sending ≡ conn.sending
   pub sender : line'.line.sender ≡ line.line.sender
   pub clock : line'.line.clock ≡ line.line.clock
@@ -84,10 +86,36 @@ module _ (g : Config) (now : ℕ) (ends : List End) (conns : List Conn) (lines :
             tied.receives k from' e y z (record { end_is = f.1; conn_is = conn_is }) allocated (record { partner = o.0; is_partner = o.1; partners = was; is_line = line_is }))
       ]
 
+  unused_after : (k : ℕ) (e : End) (y : Conn) → IsAt (slice_set ends at end') (slice_set conns at conn') k e y → IsUnused (slice_set ends at end') e → IsNewAt g e y
+  unused_after k e y here unused = elim (set_at ends at k end end' e r.is_at.end_is here.end_is) [
+    | inl t ↦
+        let was = unused_was ends at end end' r.is_at.end_is r.const e unused in
+        absurd (elim was [
+          | inl waits ↦ r.awake (ap (λ (x : End). x.state) (sym t.1) ∙ waits)
+          | inr alone ↦ alone (record { place = from; other = r.inbound.partner; stands = r.inbound.is_partner; partner = subst (λ (x : End). IsPartner x r.inbound.partner) (sym t.1) (partner_const end r.inbound.partner end' r.inbound.partner r.const (const_refl r.inbound.partner) (partner_back r.inbound.partner end r.inbound.partners)) })
+        ])
+    | inr f ↦
+        let conn_is : slice_get conns k ≡ Some y = sym (slice_get-set_other conns at k conn' f.0) ∙ here.conn_is in
+        tied.unused k e y (record { end_is = f.1; conn_is = conn_is }) (unused_was ends at end end' r.is_at.end_is r.const e unused)
+  ]
+
+  early_after : (k from' : ℕ) (e : End) (z : Direction) → At (slice_set ends at end') k e → e.state ≡ Pending → IsInboundAt (slice_set ends at end') (slice_set lines from line') e from' z → z.state_from ≡ 0
+  early_after k from' e z here waits inbound = elim (set_at ends at k end end' e r.is_at.end_is here) [
+    | inl t ↦ absurd (r.awake (ap (λ (x : End). x.state) (sym t.1) ∙ waits))
+    | inr f ↦
+        let o = was_end ends at end end' r.is_at.end_is r.const from' inbound.partner inbound.is_partner in
+        let was : IsPartner o.0 e = partner_was o.0 e inbound.partner e o.2 (const_refl e) inbound.partners in
+        let apart = other_from k from' e o.0 f.0 f.1 o.1 was in
+        let line_is : slice_get lines from' ≡ Some z = sym (slice_get-set_other lines from from' line' apart) ∙ inbound.is_line in
+        tied.early k from' e z f.1 waits (record { partner = o.0; is_partner = o.1; partners = was; is_line = line_is })
+  ]
+
   pub tied_after : (end'.state ≡ Allocated → IsReceiving (inward g conn') now (ids_of conn') conn' line') → IsTied g now (slice_set ends at end') (slice_set conns at conn') (slice_set lines from line')
   tied_after new = record {
     alike = length-set conns at conn' ∙ tied.alike ∙ sym (length-set ends at end');
     lines_alike = length-set lines from line' ∙ tied.lines_alike ∙ sym (length-set ends at end');
     sends = sends_after;
     receives = receives_after new;
+    unused = unused_after;
+    early = early_after;
   }

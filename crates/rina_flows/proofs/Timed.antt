@@ -31,7 +31,7 @@ use Rattle.rina_law.specs.Sender.{Ack, Sender, again_due, given_up, piece_again}
 use Rattle.rina_flows.specs.declared.due.Item.TheVariants as item
 use Rattle.rina_flows.specs.Calls.{Becomes, Tells}
 use Rattle.rina_flows.specs.Delivering.{HoldsGone}
-use Rattle.rina_flows.specs.Tied.{IsAt, IsInboundAt, IsReceiving, IsSending, IsTied, conns_of, ids_by, ids_of, inward, outward}
+use Rattle.rina_flows.specs.Tied.{IsAt, IsInboundAt, IsReceiving, IsSending, IsTied, IsUsed, conns_of, ids_by, ids_of, inward, outward}
 use Rattle.rina_flows.specs.Timely.{AcknowledgesIn, DueIn, IsAcknowledged, IsNumberDue, IsSentAgain, SendsAgainIn}
 use Rattle.rina_flows.proofs.Framed.{same_ids, tied_set}
 use Rattle.rina_flows.proofs.Landed.{same_at}
@@ -70,7 +70,7 @@ acknowledges_from at ends conns conns' become = λ g now lines end journal t is 
     let h = t.receives at r.from end conn r.line is_at state r.inbound in
     let line' : Direction = after_ack true (inward g conn) r.line in
     let lines' : List Direction = slice_set lines r.from line' in
-    let tied = tied_after g now ends conns lines at r.from end end conn new r.line line' journal t (record { is_at = is_at; inbound = r.inbound; const = record { flow = refl; role = refl; port = refl; app = refl; peer = refl; cube = refl }; sending = refl; sender = refl; clock = refl }) (λ still. receiving_acknowledged (inward g conn) now (ids_of conn) conn r.line h) in
+    let tied = tied_after g now ends conns lines at r.from end end conn new r.line line' journal t (record { is_at = is_at; inbound = r.inbound; const = record { flow = refl; role = refl; port = refl; app = refl; peer = refl; cube = refl }; awake = λ waits. absurd (let clash = state in cc); sending = refl; sender = refl; clock = refl }) (λ still. receiving_acknowledged (inward g conn) now (ids_of conn) conn r.line h) in
     let tied' = subst (λ (xs : List End). IsTied g now xs (slice_set conns at new) lines') (slice_set-same ends at end is) tied in
     let conns_are : conns' ≡ slice_set conns at new = b.2 ∙ ap (λ (x : Conn). slice_set conns at x) b.1 in
     record {
@@ -105,8 +105,8 @@ again_sender : (o : Option ℕ) (c : Constants) (line : Direction) → (after_ag
 again_sender (Some n) c line = refl
 again_sender None c line = refl
 
-tied_again : (g : Config) (now at : ℕ) (ends : List End) (conns : List Conn) (lines : List Direction) (end : End) (conn conn' : Conn) (line : Direction) → IsTied g now ends conns lines → IsAt ends conns at end conn → slice_get lines at ≡ Some line → IsSentAgain now conn conn' → IsTied g now ends (slice_set conns at conn') (slice_set lines at (after_again (again_due (outward g conn) line.line.clock line.line.sender) (outward g conn) line))
-tied_again g now at ends conns lines end conn conn' line t is is_line k =
+tied_again : (g : Config) (now at : ℕ) (ends : List End) (conns : List Conn) (lines : List Direction) (end : End) (conn conn' : Conn) (line : Direction) → IsTied g now ends conns lines → IsAt ends conns at end conn → slice_get lines at ≡ Some line → IsSentAgain now conn conn' → IsUsed ends at → IsTied g now ends (slice_set conns at conn') (slice_set lines at (after_again (again_due (outward g conn) line.line.clock line.line.sender) (outward g conn) line))
+tied_again g now at ends conns lines end conn conn' line t is is_line k used =
     let c : Constants = outward g conn in
     let due : Option ℕ = again_due c line.line.clock line.line.sender in
     let line' : Direction = after_again due c line in
@@ -131,11 +131,14 @@ tied_again g now at ends conns lines end conn conn' line t is is_line k =
         | inr u ↦ receiving_conn g now conn conn' l k.sends.form (ap (λ (x : Conn). x.rx) k.same) (ap (λ (x : Conn). x.plan) k.same) (ap (λ (x : Conn). x.waiting) k.same) (t.receives at i end conn l is state (record { partner = h.partner; is_partner = h.is_partner; partners = h.partners; is_line = u.1 }))
       ];
       receives_there = λ i e x other is' inb h. receiving_same (inward g x) now (ids_of x) x line line' keeps.receiver keeps.inbox keeps.passed keeps.state_from keeps.mark h;
+      unused = λ unused. absurd (used end is.end_is unused);
+      waits = λ waits. waits;
+      early = keeps.state_from;
     }) in
     subst (λ (xs : List End). IsTied g now xs (slice_set conns at conn') (slice_set lines at line')) (slice_set-same ends at end is.end_is) tied
 
 pub sends_again_from : (now at : ℕ) (ends : List End) (conns conns' : List Conn) → at < length conns → Becomes (IsSentAgain now) at conns conns' → SendsAgainIn now at (flows_of ends conns) (flows_of ends conns')
-sends_again_from now at ends conns conns' lt become = λ g lines t.
+sends_again_from now at ends conns conns' lt become = λ g lines t used.
     let k = there conns at lt in
     let conn : Conn = k.0 in
     let e = beside conns ends at conn (sym t.alike) k.1 in
@@ -144,7 +147,7 @@ sends_again_from now at ends conns conns' lt become = λ g lines t.
     let line : Direction = l.0 in
     let b = become conn k.1 in
     let lines' : List Direction = slice_set lines at (after_again (again_due (outward g conn) line.line.clock line.line.sender) (outward g conn) line) in
-    let tied = tied_again g now at ends conns lines end conn b.0 line t (record { end_is = e.1; conn_is = k.1 }) l.1 b.1 in
+    let tied = tied_again g now at ends conns lines end conn b.0 line t (record { end_is = e.1; conn_is = k.1 }) l.1 b.1 used in
     record {
       conn = conn;
       is_conn = k.1;

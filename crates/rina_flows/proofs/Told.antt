@@ -15,13 +15,13 @@ use Rattle.rina_law.specs.Line.{told}
 use Rattle.rina_law.specs.Pdus.{ack_in}
 use Rattle.rina_law.specs.Sender.{sender_told}
 use Rattle.rina_flows.specs.Calls.{Becomes, IsTold, TellsOne}
-use Rattle.rina_flows.specs.Tied.{IsAt, IsSending, IsTied, conns_of, ids_by, ids_of, inward, outward}
+use Rattle.rina_flows.specs.Tied.{IsAt, IsSending, IsTied, IsUsed, conns_of, ids_by, ids_of, inward, outward}
 use Rattle.rina_flows.proofs.Framed.{same_ids, tied_set}
 use Rattle.rina_flows.proofs.Offered.{elsewhere, flows_of}
 use Rattle.rina_flows.proofs.Restated.{receiving_conn, receiving_same}
 
-pub tied_told : (g : Config) (now at : ℕ) (pdu : Pdu) (ends : List End) (conns : List Conn) (lines : List Direction) (end : End) (conn conn' : Conn) (line : Direction) → IsTied g now ends conns lines → IsAt ends conns at end conn → slice_get lines at ≡ Some line → IsTold pdu conn conn' → IsTied g now ends (slice_set conns at conn') (slice_set lines at (record line { line = told (ack_in pdu) line.line }))
-tied_told g now at pdu ends conns lines end conn conn' line t is is_line k =
+pub tied_told : (g : Config) (now at : ℕ) (pdu : Pdu) (ends : List End) (conns : List Conn) (lines : List Direction) (end : End) (conn conn' : Conn) (line : Direction) → IsTied g now ends conns lines → IsAt ends conns at end conn → slice_get lines at ≡ Some line → IsTold pdu conn conn' → IsUsed ends at → IsTied g now ends (slice_set conns at conn') (slice_set lines at (record line { line = told (ack_in pdu) line.line }))
+tied_told g now at pdu ends conns lines end conn conn' line t is is_line k used =
     let line' : Direction = record line { line = told (ack_in pdu) line.line } in
     let sending = t.sends at conn line is.conn_is is_line in
     let sender : IsSender (outward g conn) (sender_told (ack_in pdu) line.line.sender) conn'.sending = k.told (outward g conn) line.line.sender sending.sender in
@@ -41,11 +41,14 @@ tied_told g now at pdu ends conns lines end conn conn' line t is is_line k =
         | inr u ↦ receiving_conn g now conn conn' l k.form k.rx k.plan k.waiting (t.receives at i end conn l is state (record { partner = h.partner; is_partner = h.is_partner; partners = h.partners; is_line = u.1 }))
       ];
       receives_there = λ i e x other is' inb h. receiving_same (inward g x) now (ids_of x) x line line' refl refl refl refl refl h;
+      unused = λ unused. absurd (used end is.end_is unused);
+      waits = λ waits. waits;
+      early = refl;
     }) in
     subst (λ (xs : List End). IsTied g now xs (slice_set conns at conn') (slice_set lines at line')) (slice_set-same ends at end is.end_is) tied
 
 pub tells_from : (at : ℕ) (pdu : Pdu) (ends : List End) (conns conns' : List Conn) → at < length conns → Becomes (IsTold pdu) at conns conns' → TellsOne at pdu (flows_of ends conns) (flows_of ends conns')
-tells_from at pdu ends conns conns' lt become = λ g now lines t.
+tells_from at pdu ends conns conns' lt become = λ g now lines t used.
     let k = there conns at lt in
     let conn : Conn = k.0 in
     let e = beside conns ends at conn (sym t.alike) k.1 in
@@ -54,7 +57,7 @@ tells_from at pdu ends conns conns' lt become = λ g now lines t.
     let line : Direction = l.0 in
     let b = become conn k.1 in
     let lines' : List Direction = slice_set lines at (record line { line = told (ack_in pdu) line.line }) in
-    let tied = tied_told g now at pdu ends conns lines end conn b.0 line t (record { end_is = e.1; conn_is = k.1 }) l.1 b.1 in
+    let tied = tied_told g now at pdu ends conns lines end conn b.0 line t (record { end_is = e.1; conn_is = k.1 }) l.1 b.1 used in
     record {
       lines' = lines';
       told = record { line = line; is_line = l.1; lines_are = refl };

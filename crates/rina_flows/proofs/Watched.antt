@@ -13,6 +13,7 @@ use Rattle.rina_flows.specs.Alarms.{HasAlarm, Sets, tick_at}
 use Rattle.rina_flows.specs.Quiet.{AreQuietBeside, AreTimed, IsBeside}
 use Rattle.rina_flows.specs.Watching.{AreIdleBeside, Clears, Notes, Shifts}
 use Rattle.rina_flows.proofs.Alarmed.{has_still, sets_least, under_last, unset_past}
+use Rattle.rina_iface.proofs.Grown.{pushed_at}
 
 pub quiet_sooner : (until until' : ℕ) (k : Conn) → IsQuietUntil until k → until' ≤ until → IsQuietUntil until' k
 quiet_sooner until until' k quiet le = λ live t lt. quiet live t (omega (arith, lt, le))
@@ -179,6 +180,22 @@ both_added first second conns old mid new a b t room one two is_a is_b = record 
   ]);
   least = two.least (one.least t.least);
   room = (λ i lt. has_still old.alarms new.alarms i (two.long ∙ one.long) (room i (let e = length-append conns (a ∷ b ∷ []) in omega (arith, e, lt))));
+}
+
+-- after one was added
+pub one_added : (quiet : ℕ) (conns : List Conn) (old new : Watch) (a : Conn) → AreTimed old.places.items old.until old.alarms conns → ((at : ℕ) → at < length conns + 1 → HasAlarm old.alarms at) → Notes (length conns) quiet old new → IsQuietUntil quiet a → AreTimed new.places.items new.until new.alarms (conns ++ a ∷ [])
+one_added quiet conns old new a t room one is_a = record {
+  quiet = (λ i k stands beside. elim (pushed_at conns a i k stands) [
+    | inl e ↦
+        let within = slice_get_within conns i k e in
+        let b1 = one.keeps i (λ z. absurd (omega (arith, within, z))) beside in
+        quiet_sooner (tick_at old.alarms i) (tick_at new.alarms i) k (t.quiet i k e b1.0) (let le1 = b1.1 in omega (arith, le1))
+    | inr e ↦
+        let le : tick_at new.alarms i ≤ quiet = subst (λ n. tick_at new.alarms n ≤ quiet) (sym e.0) (one.here (subst (λ n. IsBeside new.places.items n) e.0 beside)) in
+        subst (λ (x : Conn). IsQuietUntil (tick_at new.alarms i) x) (sym e.1) (quiet_sooner quiet (tick_at new.alarms i) a is_a le)
+  ]);
+  least = one.least t.least;
+  room = (λ i lt. has_still old.alarms new.alarms i one.long (room i (let e = length-append conns (a ∷ []) in omega (arith, e, lt))));
 }
 
 -- after one was taken away

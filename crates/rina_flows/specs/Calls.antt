@@ -23,7 +23,7 @@ use Rattle.rina_law.specs.Direction.{Direction, offer_refusal}
 use Rattle.rina_law.specs.Pieces.{Part, IsCut, join}
 use Rattle.rina_flows.specs.declared.flows.Flows.{Flows}
 use Rattle.rina_flows.specs.Rows.{OffersAt, PassedAt, TakesAt, ToldAt}
-use Rattle.rina_flows.specs.Tied.{IsAt, IsTied, conns_of, ids_of, outward}
+use Rattle.rina_flows.specs.Tied.{IsAt, IsTied, IsUsed, conns_of, ids_of, outward}
 
 -- the connection at a place changes so, and no other does
 abbrev pub Becomes : (Conn → Conn → Type 0) → ℕ → List Conn → List Conn → Type 0
@@ -36,6 +36,17 @@ AreTied g now flows lines = IsTied g now flows.journal.ends flows.conns lines
 -- the call changes nothing of the names of the connections
 abbrev pub SameIds : Flows → Flows → Type 0
 SameIds old new = conns_of new.conns ≡ conns_of old.conns
+
+-- the CEP-id of the far end is known, and all else of the connection is as before
+pub record IsToldPeer (dcep : ℕ) (old new : Conn) : Type 0 where
+  pub peer : new.sending.form.peer ≡ record old.sending.form.peer { dcep = dcep }
+  pub cube : new.sending.form.cube ≡ old.sending.form.cube
+  pub piece : new.sending.form.piece ≡ old.sending.form.piece
+  pub numbers : new.sending.numbers ≡ old.sending.numbers
+  pub tx : new.sending.tx ≡ old.sending.tx
+  pub rx : new.rx ≡ old.rx
+  pub plan : new.plan ≡ old.plan
+  pub waiting : new.waiting ≡ old.waiting
 
 -- Sending
 
@@ -75,7 +86,7 @@ abbrev pub Refuses : Config → ℕ → List ℕ → List Conn → List Directio
 Refuses g at sdu conns lines why = why ≢ Memory → (conn : Conn) (line : Direction) → slice_get conns at ≡ Some conn → slice_get lines at ≡ Some line → IsRefused g sdu conn line why
 
 abbrev pub Offers : ℕ → ℕ → List ℕ → Flows → Result Made OfferError → Flows → Type 0
-Offers now at sdu old (Ok made) new = (g : Config) (lines : List Direction) → AreTied g now old lines → Accepts g now at sdu old lines made new
+Offers now at sdu old (Ok made) new = (g : Config) (lines : List Direction) → AreTied g now old lines → IsUsed old.journal.ends at → Accepts g now at sdu old lines made new
 Offers now at sdu old (Err why) new = (g : Config) (lines : List Direction) → AreTied g now old lines → Refuses g at sdu old.conns lines why × (new ≡ old)
 
 -- so many pieces has an SDU of that length that is cut at this size
@@ -126,7 +137,7 @@ pub record IsToldAt (g : Config) (now at : ℕ) (pdu : Pdu) (old : Flows) (lines
   pub ids : SameIds old new
 
 abbrev pub TellsOne : ℕ → Pdu → Flows → Flows → Type 0
-TellsOne at pdu old new = (g : Config) (now : ℕ) (lines : List Direction) → AreTied g now old lines → IsToldAt g now at pdu old lines new
+TellsOne at pdu old new = (g : Config) (now : ℕ) (lines : List Direction) → AreTied g now old lines → IsUsed old.journal.ends at → IsToldAt g now at pdu old lines new
 
 -- Who takes a PDU
 

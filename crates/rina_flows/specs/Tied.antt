@@ -1,15 +1,15 @@
 -- What ties the connections of a DIF to the directions of the law, one at the place of each end.
-use Rattle.std.specs.Prelude.{◌≡◌, ◌≢◌, ℕ, ◌-◌, ◌<◌, ◌≤◌, true, List, [], length, map, slice_get, Some}
+use Rattle.std.specs.Prelude.{◌≡◌, ◌≢◌, ℕ, ◌-◌, ◌<◌, ◌≤◌, ◌⊎◌, true, List, [], length, map, slice_get, Some}
 use Rattle.std.specs.List.Sorted.{IsStrictlyIncreasing}
 use Rattle.rina_conn.specs.declared.conn.Conn.{Conn}
 use Rattle.rina_conn.specs.declared.form.Peer.{Peer}
-use Rattle.rina_conn.specs.Conns.{HasNoLast}
+use Rattle.rina_conn.specs.Conns.{HasNoLast, IsNewConn}
 use Rattle.rina_conn.specs.Sending.{IsSender}
 use Rattle.rina_conn.specs.Standing.{AreWaiting}
 use Rattle.rina_cube.specs.declared.Kind.{Kind}
 use Rattle.rina_cube.specs.declared.Kind.TheVariants.{Reliable}
 use Rattle.rina_dif_law.specs.Counting.{held_numbers, times}
-use Rattle.rina_data.specs.Configs.{Config, cube_by}
+use Rattle.rina_data.specs.Configs.{Config, cube_by, greatest, piece_size}
 use Rattle.rina_dif_law.specs.Dif.{constants}
 use Rattle.rina_dif_law.specs.Ids.{Ids, flipped}
 use Rattle.rina_dif_law.specs.Incoming.{IsKeptNumber}
@@ -19,8 +19,8 @@ use Rattle.rina_dtp.specs.Joins.{IsForward}
 use Rattle.rina_dtp.specs.Receiving.{Receiving, kept_numbers, lost_in}
 use Rattle.rina_dtp.specs.Stands.{Stands}
 use Rattle.rina_iface.specs.declared.ends.End.{End}
-use Rattle.rina_iface.specs.declared.state.PortState.TheVariants.{Allocated}
-use Rattle.rina_iface.specs.Journal.{At, IsPartner}
+use Rattle.rina_iface.specs.declared.state.PortState.TheVariants.{Allocated, Pending}
+use Rattle.rina_iface.specs.Journal.{At, HasPartner, IsPartner}
 use Rattle.rina_law.specs.Constants.{Constants}
 use Rattle.rina_law.specs.Direction.{Direction}
 use Rattle.rina_law.specs.Lists.{In}
@@ -99,10 +99,26 @@ pub record IsReceiving (c : Constants) (now : ℕ) (ids : Ids) (conn : Conn) (li
   pub all : (n : ℕ) → times n (kept_numbers conn.rx) ≡ times n (held_numbers line)
   pub rising : IsStrictlyIncreasing (kept_numbers conn.rx)
 
+-- an end that was never allocated: it waits, or it has no partner
+abbrev pub IsUnused : List End → End → Type 0
+IsUnused ends end = (end.state ≡ Pending) ⊎ (HasPartner ends end → ⊥)
+
+-- the end at a place was allocated
+abbrev pub IsUsed : List End → ℕ → Type 0
+IsUsed ends at = (end : End) → At ends at end → IsUnused ends end → ⊥
+
+-- its connection is new, and it got nothing
+pub record IsNewAt (g : Config) (end : End) (conn : Conn) : Type 0 where
+  pub new : IsNewConn conn.sending.form.cube (piece_size g) (greatest g) conn.sending.form.peer conn
+  pub got : end.got ≡ []
+
 -- the connection of each place stands for the sender of the direction there, and, while its end is allocated, for the
--- receiver of the direction from its partner
+-- receiver of the direction from its partner. That of an end that was never allocated is new, and no state of a receiver was
+-- made behind an SDU in the direction to an end that waits
 pub record IsTied (g : Config) (now : ℕ) (ends : List End) (conns : List Conn) (lines : List Direction) : Type 0 where
   pub alike : length conns ≡ length ends
   pub lines_alike : length lines ≡ length ends
   pub sends : (at : ℕ) (conn : Conn) (line : Direction) → slice_get conns at ≡ Some conn → slice_get lines at ≡ Some line → IsSending g now conn line
   pub receives : (at from : ℕ) (end : End) (conn : Conn) (line : Direction) → IsAt ends conns at end conn → end.state ≡ Allocated → IsInboundAt ends lines end from line → IsReceiving (inward g conn) now (ids_of conn) conn line
+  pub unused : (at : ℕ) (end : End) (conn : Conn) → IsAt ends conns at end conn → IsUnused ends end → IsNewAt g end conn
+  pub early : (at from : ℕ) (end : End) (line : Direction) → At ends at end → end.state ≡ Pending → IsInboundAt ends lines end from line → line.state_from ≡ 0

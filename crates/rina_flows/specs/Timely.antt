@@ -24,7 +24,7 @@ use Rattle.rina_flows.specs.declared.due.Item.TheVariants.{Ack, Again, GiveUp, G
 use Rattle.rina_flows.specs.Calls.{AreTied, SameIds}
 use Rattle.rina_flows.specs.Delivering.{HoldsGone}
 use Rattle.rina_flows.specs.Ending.{EndsAt}
-use Rattle.rina_flows.specs.Tied.{IsAt, IsInboundAt, conns_of, inward, outward}
+use Rattle.rina_flows.specs.Tied.{IsAt, IsInboundAt, IsUsed, conns_of, inward, outward}
 
 -- What is due
 
@@ -104,7 +104,7 @@ pub record HasSentAgain (g : Config) (now at : ℕ) (old : Flows) (lines : List 
   pub ids : SameIds old new
 
 abbrev pub SendsAgainIn : ℕ → ℕ → Flows → Flows → Type 0
-SendsAgainIn now at old new = (g : Config) (lines : List Direction) → AreTied g now old lines → HasSentAgain g now at old lines new
+SendsAgainIn now at old new = (g : Config) (lines : List Direction) → AreTied g now old lines → IsUsed old.journal.ends at → HasSentAgain g now at old lines new
 
 -- A number that is given up
 

@@ -4,7 +4,7 @@ ghost use Rattle.std.specs.Vec.{vec_capacity};
 ghost use Rattle.rina_conn.specs.declared.conn.Conn.{Conn};
 ghost use Rattle.rina_base.specs.Pdus.{pdu_of};
 ghost use Rattle.rina_flows.specs.Delivering.{GivesUpAll, IsLanding, Receives, closed};
-ghost use Rattle.rina_flows.specs.Calls.{Becomes, IsOffer, IsPass, IsTold};
+ghost use Rattle.rina_flows.specs.Calls.{Becomes, IsOffer, IsPass, IsTold, IsToldPeer};
 ghost use Rattle.rina_flows.specs.Timely.{IsAcknowledged, IsSentAgain};
 ghost use Rattle.rina_flows.specs.Quiet.{AreQuiet};
 ghost use Rattle.rina_flows.specs.Watching.{AreIdleBeside};
@@ -240,6 +240,39 @@ impl Conns {
         self.watch.clear(self.items.len());
         let _ = self.items.pop();
         self.watch.clear(self.items.len());
+    }
+
+    /// Adds a connection. Without memory nothing changes.
+    pub fn push_one(&mut self, conn: Conn) -> Result<(), AllocError>
+        ensures ok { OnOk result (self.new ≡ self.old ++ conn ∷ []) }
+        ensures err { OnErr result (self.new ≡ self.old) }
+    {
+        self.items.reserve(1)?;
+        let at = self.items.len();
+        self.guesses.add(conn.sending.form.peer, at)?;
+        self.watch.reserve(at + 1)?;
+        self.watch.note(at, conn.quiet_until());
+        self.items.push_reserved(conn);
+        Ok(())
+    }
+
+    /// Takes away the last connection. Takes no memory.
+    pub fn pop_one(&mut self)
+        ensures { (was : List Conn) (last : Conn) → self.old ≡ was ++ last ∷ [] → self.new ≡ was }
+    {
+        let _ = self.items.pop();
+        self.watch.clear(self.items.len());
+    }
+
+    /// Tells the connection at a place the CEP-id of its far end. Takes no memory.
+    pub fn tell(&mut self, at: usize, dcep: Cep)
+        requires at { at < length self.old }
+        ensures { Becomes (IsToldPeer dcep) at self.old self.new }
+    {
+        let conn = &mut self.items[at];
+        conn.sending.form.peer.dcep = dcep;
+        let quiet = conn.quiet_until();
+        self.watch.note(at, quiet);
     }
 
     /// Finds the connections at which something is due at this tick, by their timers, so that `watched` can tell.

@@ -1,13 +1,15 @@
 //! The flows of a DIF.
-ghost use Rattle.std.specs.Prelude.{◌≡◌, ◌≤◌, ◌<◌, ◌-◌, ◌^◌, min, [], ◌∷◌, ◌++◌, length, slice_get, Some, IsTrue, ◌↔◌, OnOk, OnErr};
+ghost use Rattle.std.specs.Prelude.{◌≡◌, ◌≤◌, ◌<◌, ◌-◌, ◌^◌, min, [], ◌∷◌, ◌++◌, length, slice_get, slice_set, Some, IsTrue, ◌↔◌, OnOk, OnErr};
 ghost use Rattle.std.specs.Vec.{vec_capacity};
 ghost use Rattle.rina_base.specs.Pdus.{pdu_of};
 ghost use Rattle.rina_conn.specs.Sending.{TellsRoom};
 ghost use Rattle.rina_cube.specs.Cubes.{IsCube};
 ghost use Rattle.rina_dif_law.specs.Ids.{IsFrom, flipped};
-ghost use Rattle.rina_flows.specs.Adding.{Adds, turned};
-ghost use Rattle.rina_flows.specs.Calls.{Offered, Offers, PassesOne, TakenBy, Takes, TakesHere, Tells, TellsNeed, TellsNext, TellsOne};
+ghost use Rattle.rina_flows.specs.Adding.{Adds, AddsAsker, AddsFar, Binds, turned};
+ghost use Rattle.rina_flows.specs.Calls.{Becomes, IsToldPeer, Offered, Offers, PassesOne, TakenBy, Takes, TakesHere, Tells, TellsNeed, TellsNext, TellsOne};
 ghost use Rattle.rina_dtp.specs.Receiving.{kept_numbers};
+ghost use Rattle.rina_iface.specs.declared.ends.End.{End};
+ghost use Rattle.rina_iface.specs.declared.state.PortState.TheVariants.{Allocated};
 ghost use Rattle.rina_flows.specs.Delivering.{ArrivesIn, ForgetsIn, StopsIn, StopsWithin};
 ghost use Rattle.rina_flows.specs.Elsewhere.{ChangesAt, SameBut};
 ghost use Rattle.rina_flows.specs.Tied.{IsAt, conns_of, ids_of};
@@ -15,7 +17,7 @@ ghost use Rattle.rina_flows.specs.Tied.{IsAt, conns_of, ids_of};
 use crate::arrival::Notes;
 use crate::conns::Conns;
 use rina_account::{Ledger, Off};
-use rina_base::{Bytes, Cause, Memory, PduView, Tick};
+use rina_base::{Bytes, Cause, Cep, Memory, PduView, Tick};
 use rina_conn::{Conn, Form, Made, OfferError, Peer};
 use rina_cube::Cube;
 use rina_iface::{End, Ends, Entry, Journal, PortState};
@@ -392,5 +394,48 @@ impl Flows {
                 Err(Memory)
             }
         }
+    }
+
+    /// Adds one end of a flow of a cube, with its connection: that of the asker, whose far end is not known yet, or a far end whose
+    /// asker stands elsewhere. Without memory nothing changes.
+    pub fn add_end(
+        &mut self,
+        alloc: Global,
+        cube: &Cube,
+        piece: u32,
+        max: u32,
+        peer: Peer,
+        end: End,
+    ) -> Result<(), Memory>
+        requires cube { IsCube cube.now }
+        requires piece { 1 ≤ piece }
+        ensures ends { OnOk result (self.new.journal.ends ≡ self.old.journal.ends ++ end ∷ []) }
+        ensures asks { OnOk result (AddsAsker cube.now piece max peer end self.old self.new) }
+        ensures answers { OnOk result (AddsFar cube.now piece max peer end self.old self.new) }
+        ensures keeps { OnOk result (SameBut (λ i. length self.old.conns ≤ i) self.old.conns self.new.conns) }
+        ensures err { OnErr result (self.new ≡ self.old) }
+    {
+        let conn = Conn::new(alloc, cube, piece, max, peer)?;
+        self.conns.push_one(conn)?;
+        match self.journal.ends.push(end) {
+            Ok(()) => Ok(()),
+            Err(AllocError) => {
+                self.conns.pop_one();
+                Err(Memory)
+            }
+        }
+    }
+
+    /// Lets the end at a place be allocated, which waited for its answer: its connection knows the CEP-id of the far end from now on.
+    /// Takes no memory.
+    pub fn bind(&mut self, at: usize, dcep: Cep)
+        requires at { at < length self.old.conns }
+        requires end { at < length self.old.journal.ends }
+        ensures binds { Binds at dcep self.old self.new }
+        ensures conns { Becomes (IsToldPeer dcep) at self.old.conns self.new.conns }
+        ensures ends { (end : End) → slice_get self.old.journal.ends at ≡ Some end → self.new.journal.ends ≡ slice_set self.old.journal.ends at (record end { state = Allocated }) }
+    {
+        self.conns.tell(at, dcep);
+        self.journal.ends.set_state(at, PortState::Allocated);
     }
 }

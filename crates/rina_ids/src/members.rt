@@ -94,7 +94,7 @@ impl MemberIds {
     }
 
     /// Draws the least id of the member at a place that is neither in use nor at rest. There is one.
-    fn draw(&mut self, alloc: Global, now: Tick, at: usize) -> Result<Draw, Memory>
+    pub fn draw(&mut self, alloc: Global, now: Tick, at: usize) -> Result<Draw, Memory>
         requires { (cep : ℕ) × DrawsAt self.old now at cep }
         ensures ok { IfOk result (λ draw. IsDrawnAt self.old now at draw self.new) }
         ensures err { OnErr result (self.new ≡ self.old) }
@@ -104,7 +104,7 @@ impl MemberIds {
     }
 
     /// Takes a draw of the member at a place back. Takes no memory.
-    fn undo_draw(&mut self, alloc: Global, at: usize, draw: Draw)
+    pub fn undo_draw(&mut self, alloc: Global, at: usize, draw: Draw)
         requires { (held : List CepIds) × (now : ℕ) × IsDrawnAt held now at draw self.old }
         ensures { (held : List CepIds) (now : ℕ) → IsDrawnAt held now at draw self.old → self.new ≡ held }
     {

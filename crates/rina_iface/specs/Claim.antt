@@ -1,5 +1,5 @@
 -- What `incoming` does.
-use Rattle.std.specs.Prelude.{◌≡◌, ℕ, List, remove, slice_get, Option, Some, None}
+use Rattle.std.specs.Prelude.{◌≡◌, ℕ, List, [], remove, slice_get, Option, Some, None}
 use Rattle.rina_base.specs.declared.number.Port.{Port}
 use Rattle.rina_iface.specs.declared.ends.End.{End}
 use Rattle.rina_iface.specs.Seen.{Fac, Seen, oldest_in, with_fac}
@@ -26,3 +26,7 @@ pub record IsClaimed (old : Seen) (fac node : ℕ) (app : List ℕ) (port : Port
 abbrev pub Claims : Seen → ℕ → ℕ → List ℕ → Option Port → Seen → Type 0
 Claims old fac node app None new = NoneWaits (slice_get old.facs fac) node app × (new ≡ old)
 Claims old fac node app (Some port) new = IsClaimed old fac node app port new
+
+-- no far end waits at any facility to be claimed
+abbrev pub AreClaimed : Seen → Type 0
+AreClaimed s = (n : ℕ) (f : Fac) → slice_get s.facs n ≡ Some f → f.waiting ≡ []

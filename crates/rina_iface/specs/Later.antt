@@ -1,10 +1,11 @@
 -- How journals go on.
-use Rattle.std.specs.Prelude.{◌≡◌, ℕ, ◌≤◌, List, ◌++◌, length, slice_get, Some}
+use Rattle.std.specs.Prelude.{◌≡◌, ℕ, ◌≤◌, List, [], ◌++◌, length, slice_get, Some}
 use Rattle.rina_law.specs.declared.entry.Entry.{Entry}
 use Rattle.rina_iface.specs.declared.ends.End.{End}
 use Rattle.rina_iface.specs.declared.state.PortState.{PortState}
 use Rattle.rina_iface.specs.declared.state.PortState.TheVariants.{Pending, Allocated, Failed, Closed}
-use Rattle.rina_iface.specs.Journal.{At}
+use Rattle.rina_iface.specs.declared.state.Role.TheVariants.{Far}
+use Rattle.rina_iface.specs.Journal.{At, IsNamed, IsPartner}
 use Rattle.rina_iface.specs.Seen.{Fac, Seen}
 
 -- a port moves from Pending to Allocated or Refused, and from Allocated to Failed or Closed; here it stayed, moved, or moved twice
@@ -57,3 +58,18 @@ pub record IsLater (old new : Seen) : Type 0 where
   pub clock : old.now ≤ new.now
   pub number : length new.facs ≡ length old.facs
   pub facs : (n : ℕ) (f : Fac) → slice_get old.facs n ≡ Some f → (f' : Fac) × (slice_get new.facs n ≡ Some f') × IsLaterFac old.now new.now f f'
+
+-- the far end of a flow whose asker stands among these ends, at which nothing was sent or passed yet
+pub record IsFarOf (ends : List End) (e : End) : Type 0 where
+  pub place : ℕ
+  pub asker : End
+  pub stands : At ends place asker
+  pub far : e.role ≡ Far
+  pub partner : IsPartner e asker
+  pub named : IsNamed e asker
+  pub sent : e.sent ≡ []
+  pub taken : e.taken ≡ 0
+
+-- each end that is new is such a far end
+abbrev pub AreFarOf : List End → List End → Type 0
+AreFarOf old new = (i : ℕ) (e : End) → At new i e → length old ≤ i → IsFarOf old e

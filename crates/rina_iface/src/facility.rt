@@ -1,5 +1,5 @@
 //! The trait that every layer stands on.
-ghost use Rattle.std.specs.Prelude.{◌≡◌, ◌≤◌, ℕ, Bool, Option, Some, None, IfSome, IsSome, MatchOption, List, Result, length, slice_get, option_map};
+ghost use Rattle.std.specs.Prelude.{◌≡◌, ◌≤◌, ℕ, Bool, true, Option, Some, None, IfSome, IsSome, MatchOption, List, Result, length, slice_get, option_map};
 ghost use Rattle.rina_base.specs.declared.number.Num.{Num};
 ghost use Rattle.rina_base.specs.declared.number.Port.{Port};
 ghost use Rattle.rina_iface.specs.declared.ask.Ask.{Ask};
@@ -16,7 +16,7 @@ ghost use Rattle.rina_iface.specs.Register.{Registers};
 ghost use Rattle.rina_iface.specs.Allocate.{Allocates};
 ghost use Rattle.rina_iface.specs.Unregister.{Unregisters};
 ghost use Rattle.rina_iface.specs.Bind.{Binds, CanBind};
-ghost use Rattle.rina_iface.specs.Claim.{Claims};
+ghost use Rattle.rina_iface.specs.Claim.{AreClaimed, Claims};
 ghost use Rattle.rina_iface.specs.Free.{Frees};
 ghost use Rattle.rina_iface.specs.Send.{IsOwnRefusal, Sends};
 ghost use Rattle.rina_iface.specs.Pass.{IsLent, IsPassed};
@@ -164,6 +164,10 @@ pub trait Facility {
         ensures later { IsLater (seen self.old) (seen self.new) }
         ensures does { Claims (seen self.old) fac node app.now result (seen self.new) }
         ensures whole { does_incoming self.old fac node app.now result self.new };
+
+    /// Whether no far end waits at any of the facilities to be claimed. Where it says so, there is none to ask for.
+    fn none_waits(&self) -> bool
+        ensures { result ≡ true → AreClaimed (seen self.now) };
 
     /// Sends an SDU, and answers its number.
     fn send(&mut self, alloc: Global, port: Port, sdu: &[u8]) -> Result<Num, SendError>

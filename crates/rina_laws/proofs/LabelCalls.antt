@@ -72,7 +72,7 @@ freed_ends true es i e es' h (at, other, there, partner, is) =
 pub frees : (both : Bool) (s : Seen) (port : Port) (r : Result (Unit {0}) FreeError) (s' : Seen) → Frees both s port r s' → Rest s.facs s'.facs
 frees both s port (Ok done) s' w =
     let f : Fac = record w.facility { ends = w.ends } in
-    subst (Rest s.facs) (sym (ap (λ (x : Seen). x.facs) w.new_is)) (rest_set s.facs port.fac w.facility f w.stands.facility (record { ends = freed_ends both w.facility.ends w.place w.end w.ends w.stands.is w.frees; waiting = wait_same w.facility.waiting w.facility.waiting refl }))
+    subst (Rest s.facs) (sym (ap (λ (x : Seen). x.facs) w.new_is)) (rest_set s.facs port.fac w.facility f w.stands.facility (record { ends = freed_ends both w.facility.ends w.place w.end w.ends w.stands.is w.frees; waiting = wait_same w.facility f refl }))
 frees both s port (Err free.Memory) s' w = idle s s' w
 frees both s port (Err free.NoPort) s' w = idle s s' w.1
 

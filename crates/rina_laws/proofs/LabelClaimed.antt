@@ -9,9 +9,8 @@ use Rattle.rina_tower.specs.Bystanders.{is_ipc}
 use Rattle.rina_notes.specs.declared.label.Label.{Label}
 use Rattle.rina_laws.proofs.LabelEnds.{ArePorts, HavePorts, Holds, Waits, number_tells}
 use Rattle.rina_laws.proofs.LabelGiven.{named_given, tells_given}
-use Rattle.rina_laws.proofs.LabelGrown.{fac_of_port, one_place_at}
 use Rattle.rina_laws.proofs.LabelRanks.{AllPorts, Both, Shown, both_from, both_on}
-use Rattle.rina_laws.proofs.LabelTells.{AllFit, AreNamed, HoldsAt, IsBare, IsUnknown, Tells, WaitsAt}
+use Rattle.rina_laws.proofs.LabelTells.{AllFit, AreNamed, HoldsAt, IsBare, IsUnknown, Tells, WaitsAt, fac_of_port, one_place_at}
 
 abbrev pub without : Fac → ℕ → Fac
 without f at = record f { waiting = remove f.waiting at }
@@ -150,6 +149,10 @@ taken_named g g' r n port ls w a = record {
   waits = λ q m at place e v h.
       let l = taken_left g g' r n port q m at place w v in
       a.waits q m l.before place e l.waits (taken_from g g' r n port q m place e w h);
+  within = λ q m at place v.
+      let l = taken_left g g' r n port q m at place w v in
+      let e = a.within q m l.before place l.waits in
+      (e.0, taken_on g g' r n port q m place e.0 w e.1);
   once = λ q m j k place v u.
       let x = taken_left g g' r n port q m j place w v in
       let y = taken_left g g' r n port q m k place w u in

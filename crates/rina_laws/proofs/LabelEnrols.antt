@@ -1,4 +1,4 @@
--- What an enrolment that is asked for does to the ends of all ranks: at the rank below its own two ends of IPC processes are made at most, and all others
+-- What an enrolment that is asked for does to the ends of all ranks: at the rank below its own ends of IPC processes are made at most, and all others
 -- rest.
 use Rattle.std.proofs.Common.{arith, ◌≡◌, ◌≢◌, ◌∙◌, ◌+◌, ◌==◌, ℕ, zero, suc, true, false, List, cond, map, slice_get, Option, Some, None, option_map, Result, Ok, Err, refl, sym, ap, subst, inl, inr, ◌⊎◌}
 use Rattle.std.proofs.lemmas.Bool.Decides.{eqb_tells}
@@ -33,13 +33,13 @@ use Rattle.rina_laws.proofs.LabelRests.{Rest, fac_same, rest_same, rest_set}
 
 -- ---- at the rank below
 
--- two ends of IPC processes were made
+-- an end of an IPC process was made, and the far end of another one with it or not yet
 pub record HasLink (fs fs' : List Fac) : Type 0 where
   pub fac : ℕ
   pub asker : End
-  pub far : End
+  pub far : Option End
   pub asker_ipc : IsIpc asker.app
-  pub far_ipc : IsIpc far.app
+  pub far_ipc : (e : End) → far ≡ Some e → IsIpc e.app
   pub grown : IsGrown fs fac asker far fs'
   pub ports : HavePorts fs'
 
@@ -66,12 +66,12 @@ asked_here ask (Ok port) below below' v app to d =
         asker = f.asker;
         far = f.far;
         asker_ipc = subst IsIpc (sym f.app) app;
-        far_ipc = subst IsIpc (sym f.far_app) to;
+        far_ipc = λ e is. subst IsIpc (sym (f.far_app e is)) to;
         grown = f.grown;
         ports = f.ports;
       });
     }
-asked_here ask (Err e) below below' v app to d = (let here = rests_ask ask e below below' d in record { alone = here.below; links = inl here.rests })
+asked_here ask (Err e) below below' v app to d = (let here = rests_ask ask e below below' v d in record { alone = here.below; links = inl here.rests })
 
 links_here : (below below' : Tower) → IsTower below → MayAllocate below below' → LinksHere below below'
 links_here below below' v (inl is) = record { alone = subst (IsAlone below) (sym is) (alone_refl below); links = inl (rest_same (facs_of below) (facs_of below') (ap facs_of is)) }
@@ -108,9 +108,9 @@ enrols_links r dif node fac peer x t t' v d =
     let all = at_rank (Links r) r (EnrolsAtTop dif node fac peer x) _ t t' (rank_of t r) refl (λ u u' is high w. top_links r dif node fac peer x u u' high (rank_kept t r u v is) w) (λ k ne fs fs' is. links_idle r k fs fs' is) d in
     all.all
 
--- ---- of all ranks: first the two ends, and then the rest
+-- ---- of all ranks: first the ends, and then the rest
 
--- at one rank two ends of IPC processes were made, and at all others the ends rest
+-- at one rank ends of IPC processes were made, and at all others the ends rest
 pub record LinkMade (g g' : Shown) : Type 0 where
   pub rank : ℕ
   pub facs : List Fac
@@ -152,7 +152,7 @@ links_made (suc h) g g' a =
       | inr w ↦ inr (record { rank = h; facs = w.facs; is_rank = w.is; facs' = w.facs'; is_rank' = w.is'; link = w.did.1; rests = others })
     ]
 
--- what all ranks show once the two ends are there
+-- what all ranks show once these ends are there
 abbrev between : Shown → Shown → ℕ → Shown
 between g g' r k = cond (k == r) (g' k) (g k)
 
@@ -197,9 +197,9 @@ link_keeps V told g g' ls view m k =
     let ports : AllPorts mid = ports_after g mid m.rank m.facs' k.ports (between_here g g' m.rank m.rank refl ∙ m.is_rank') l.ports grown.others in
     let first : KeepsShown V told mid ls = record {
       ports = ports;
-      fits = fit_grown g mid m.rank l.fac l.asker l.far grown (ipc_fits l.asker l.asker_ipc) (ipc_fits l.far l.far_ipc) k.fits;
+      fits = fit_grown g mid m.rank l.fac l.asker l.far grown (ipc_fits l.asker l.asker_ipc) (λ e is. ipc_fits e (l.far_ipc e is)) k.fits;
       named = grown_named V told g mid m.rank l.fac l.asker l.far ls ports grown k.tells k.named;
-      tells = grown_tells V told g mid m.rank l.fac l.asker l.far ls grown (view.hidden l.asker l.asker_ipc) (view.hidden l.far l.far_ipc) k.tells;
+      tells = grown_tells V told g mid m.rank l.fac l.asker l.far ls grown (view.hidden l.asker l.asker_ipc) (λ e is. view.hidden e (l.far_ipc e is)) k.tells;
     } in
     shown_rest V told mid g' ls view (rests_then g g' m) first
 

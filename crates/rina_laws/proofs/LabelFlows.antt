@@ -1,21 +1,19 @@
 -- What an ask and a claim of an application do to the facilities of all ranks.
-use Rattle.std.proofs.Common.{◌≡◌, ◌≢◌, ◌∙◌, ◌+◌, ℕ, Bool, true, false, cond, List, [], length, map, slice_get, Option, Some, None, option_map, Result, Ok, Err, refl, sym, ap, subst, inl, inr, ◌⊎◌}
+use Rattle.std.proofs.Common.{◌≡◌, ◌≢◌, ◌∙◌, ◌+◌, ℕ, Bool, true, false, List, [], ◌∷◌, ◌++◌, append-nil, slice_set, Option, Some, None, option_map, Result, Ok, Err, refl, sym, ap, subst, inl, inr, ◌⊎◌}
 use Rattle.std.specs.Prelude.{◌||◌}
-use Rattle.std.specs.Option.{option_map_or}
 use Rattle.std.proofs.lemmas.Option.{none-some, same_Some}
+use Rattle.rina_base.specs.declared.number.FlowName.{FlowName}
 use Rattle.rina_base.specs.declared.number.Port.{Port}
 use Rattle.rina_iface.specs.declared.ask.Ask.{Ask}
 use Rattle.rina_iface.specs.declared.ends.End.{End}
 use Rattle.rina_iface.specs.declared.error.AllocateError.{AllocateError}
 use Rattle.rina_iface.specs.declared.error.AllocateError.TheVariants as allocate
-use Rattle.rina_iface.specs.declared.state.PortState.TheVariants.{Allocated}
-use Rattle.rina_iface.specs.Allocate.{Allocates, asker_end, far_end, refused_in, unless_offered}
-use Rattle.rina_iface.specs.Seen.{Fac, Offer, Seen, is_member, offered}
-use Rattle.rina_iface.proofs.Changed.{all_at}
-use Rattle.rina_wire.specs.Air.{Air, Line, fac_of, seen_of as seen_of_wires, wire_at}
-use Rattle.rina_wire.specs.Allocate.{AllocatesOn, allocated, flow_made, flow_on, other_node, own_allocate_refusal, port_on}
-use Rattle.rina_wire.specs.Sound.{IsFarPlace, IsSound}
-use Rattle.rina_wire.proofs.Seen.{fac_at, seen_on_wire}
+use Rattle.rina_iface.specs.declared.state.PortState.{PortState}
+use Rattle.rina_iface.specs.declared.state.PortState.TheVariants.{Allocated, Pending}
+use Rattle.rina_iface.specs.Allocate.{Allocates, IsAsked, Makes, asker_end, far_end, next_port}
+use Rattle.rina_iface.specs.Seen.{Fac, Seen}
+use Rattle.rina_wire.specs.Air.{Air, seen_of as seen_of_wires}
+use Rattle.rina_wire.specs.Allocate.{AllocatesOn}
 use Rattle.rina_wire.proofs.SoundAllocate.{sound_allocates}
 use Rattle.rina_tower.specs.declared.applications.AppError.{AppError}
 use Rattle.rina_tower.specs.declared.applications.AppError.TheVariants as apps
@@ -23,12 +21,15 @@ use Rattle.rina_tower.specs.declared.tower.Tower.{Tower, Rank', Wires}
 use Rattle.rina_tower.specs.Applications.{Answers, AppAllocates}
 use Rattle.rina_tower.specs.Bystanders.{is_ipc}
 use Rattle.rina_tower.specs.Calls.{AllocatesAtTop}
-use Rattle.rina_tower.specs.Ranks.{fac_of_dif, rank_of, seen_of_difs}
+use Rattle.rina_tower.specs.Ranks.{now_of, rank_of, seen_of_difs}
+use Rattle.rina_tower.specs.Refusals.{own_allocate}
 use Rattle.rina_tower.specs.Stands.{IsTower}
 use Rattle.rina_tower.specs.Levels.{AtRank}
-use Rattle.rina_laws.proofs.LabelCalls.{AllRest, RestsHere, call_rests, rests_nothing, served}
+use Rattle.rina_wire.proofs.Asked.{seen_allocates}
+use Rattle.rina_tower.proofs.Serving.{allocates_seen, rank_allocates}
+use Rattle.rina_laws.proofs.LabelCalls.{AllRest, RestsHere, call_rests, rests_nothing}
 use Rattle.rina_laws.proofs.LabelEnds.{HavePorts, number_tells, ports_kept}
-use Rattle.rina_laws.proofs.LabelGrown.{GrownAt, IsGrown}
+use Rattle.rina_laws.proofs.LabelGrown.{GrownAt, IsGrown, grown}
 use Rattle.rina_laws.proofs.LabelRanks.{AllPorts, Both, IsIdle, Shown, both_as, both_from, both_on, facs_of, has_rank, rank_kept, shown}
 use Rattle.rina_laws.proofs.LabelRests.{rest_same}
 use Rattle.rina_laws.proofs.LabelSends.{DoesHere, call_at}
@@ -59,65 +60,85 @@ done_at r P does none t t' own never d =
 
 -- ---- allocate
 
--- two ends were made, of which the first has the port, and neither has a journal yet
+-- an end has no journal yet
+abbrev pub IsBlank : End → Type 0
+IsBlank e = (e.sent ≡ []) × (e.got ≡ []) × (e.taken ≡ 0)
+
+-- an end was made, which has the port, and the far end with it or not yet. Neither has a journal yet
 pub record IsFlow (ask : Ask) (port : Port) (fs fs' : List Fac) : Type 0 where
   pub asker : End
-  pub far : End
+  pub far : Option End
   pub its : port ≡ asker.port
   pub app : asker.app ≡ ask.app
-  pub far_app : far.app ≡ ask.to
-  pub asker_new : (asker.sent ≡ []) × (asker.got ≡ []) × (asker.taken ≡ 0)
-  pub far_new : (far.sent ≡ []) × (far.got ≡ []) × (far.taken ≡ 0)
+  pub far_app : (e : End) → far ≡ Some e → e.app ≡ ask.to
+  pub asker_new : IsBlank asker
+  pub far_new : (e : End) → far ≡ Some e → IsBlank e
   pub grown : IsGrown fs ask.fac asker far fs'
   pub ports : HavePorts fs'
 
-flow_at : (a : Air) (ask : Ask) (port : Port) (o : Option Line) → wire_at a ask.fac ≡ o → IsSound a → HavePorts (facs_of (Wires (allocated a ask))) → refused_in (option_map fac_of o) ask (own_allocate_refusal a ask) ≡ None
-    → port ≡ record { fac = ask.fac; node = ask.node; n = option_map_or (λ (l : Line). l.flows) o 0 + 1 } → IsFlow ask port (facs_of (Wires a)) (facs_of (Wires (allocated a ask)))
-flow_at a ask port None h s ports free is = absurd (none-some allocate.NoMember (sym free))
-flow_at a ask port (Some l) h s ports free is = record {
-  asker = asker_end (flow_on l a.now ask.node) (port_on l ask.fac ask.node) ask 0 Allocated;
-  far = far_end (flow_on l a.now ask.node) (port_on l ask.fac (other_node l ask.node)) ask 0;
-  its = is;
-  app = refl;
-  far_app = refl;
-  asker_new = (refl, refl, refl);
-  far_new = (refl, refl, refl);
-  grown = record {
-    facility = fac_of l;
-    stands = fac_at a ask.fac ∙ ap (option_map fac_of) h;
-    within = λ k place w. (all_at (IsFarPlace (length l.ends)) l.waiting k place (s.flows ask.fac l h).waiting w).1;
-    new_is = ap (λ (z : Seen). z.facs) (seen_on_wire a ask.fac (flow_made a.now ask) l h);
-  };
-  ports = ports;
-}
+-- one facility made it
+record HasMade (ask : Ask) (port : Port) (f f' : Fac) : Type 0 where
+  asker : End
+  far : Option End
+  its : port ≡ asker.port
+  app : asker.app ≡ ask.app
+  far_app : (e : End) → far ≡ Some e → e.app ≡ ask.to
+  asker_new : IsBlank asker
+  far_new : (e : End) → far ≡ Some e → IsBlank e
+  is : f' ≡ grown f asker far
 
-flow_of : (a : Air) (ask : Ask) (port : Port) (a' : Air) → IsSound a → AllocatesOn a ask (Ok port) a' → IsFlow ask port (facs_of (Wires a)) (facs_of (Wires a'))
-flow_of a ask port a' s g =
-    let kept = (sound_allocates a ask (Ok port) a' s g).kept in
-    let ports = subst (λ (b : Air). HavePorts (facs_of (Wires b))) g.goes.air (ports_kept (seen_of_wires a') kept) in
-    subst (λ (b : Air). IsFlow ask port (facs_of (Wires a)) (facs_of (Wires b))) (sym g.goes.air) (flow_at a ask port (wire_at a ask.fac) refl s ports g.goes.refused g.answers)
+makes_flow : (state : PortState) (f : Fac) (flow : FlowName) (port : Port) (ask : Ask) (cube : ℕ) (f' : Fac) → Makes state f flow port ask cube f' → HasMade ask port f f'
+makes_flow Pending f flow port ask cube f' w =
+    let asker : End = asker_end flow port ask cube Pending in
+    record {
+      asker = asker;
+      far = None;
+      its = refl;
+      app = refl;
+      far_app = λ e same. absurd (none-some e same);
+      asker_new = (refl, refl, refl);
+      far_new = λ e same. absurd (none-some e same);
+      is = w ∙ ap (λ (ws : List ℕ). record f { ends = f.ends ++ asker ∷ []; waiting = ws }) (sym (append-nil f.waiting));
+    }
+makes_flow Allocated f flow port ask cube f' w =
+    let far : End = far_end flow (next_port f ask.fac w.0) ask cube in
+    record {
+      asker = asker_end flow port ask cube Allocated;
+      far = Some far;
+      its = refl;
+      app = refl;
+      far_app = λ e same. ap (λ (z : End). z.app) (sym (same_Some far e same));
+      asker_new = (refl, refl, refl);
+      far_new = λ e same. subst IsBlank (same_Some far e same) (refl, refl, refl);
+      is = w.1;
+    }
+makes_flow state f flow port ask cube f' w = absurd w
 
--- DIFs refuse whatever they are asked for
-unoffered : (o : Option Offer) → unless_offered o (Some allocate.Unbuilt) ≡ None → ⊥
-unoffered None h = none-some allocate.NoCube (sym h)
-unoffered (Some c) h = none-some allocate.Unbuilt (sym h)
-
-by_member : (b : Bool) (o : Option Offer) → cond b (unless_offered o (Some allocate.Unbuilt)) (Some allocate.NoMember) ≡ None → ⊥
-by_member true o h = unoffered o h
-by_member false o h = none-some allocate.NoMember (sym h)
-
-refuses_all : (o : Option Fac) (ask : Ask) → refused_in o ask (Some allocate.Unbuilt) ≡ None → ⊥
-refuses_all None ask h = none-some allocate.NoMember (sym h)
-refuses_all (Some f) ask h = by_member (is_member f.members ask.node) (offered f.cubes ask.want) h
+-- so a rank that was asked for it
+flow_of : (ask : Ask) (port : Port) (s s' : Seen) → HavePorts s'.facs → IsAsked s ask port s' → IsFlow ask port s.facs s'.facs
+flow_of ask port s s' ports a =
+    let m = makes_flow a.state a.facility a.flow port ask a.cube.id a.facility' a.makes in
+    record {
+      asker = m.asker;
+      far = m.far;
+      its = m.its;
+      app = m.app;
+      far_app = m.far_app;
+      asker_new = m.asker_new;
+      far_new = m.far_new;
+      grown = record { facility = a.facility; stands = a.stands; new_is = ap (λ (z : Seen). z.facs) a.new_is ∙ ap (slice_set s.facs ask.fac) m.is };
+      ports = ports;
+    }
 
 pub flow_here : (ask : Ask) (port : Port) (u u' : Tower) → IsTower u → AllocatesAtTop ask (Ok port) u u' → DoesHere (IsFlow ask port) u u'
-flow_here ask port (Wires a) (Wires a') v w = record { below = tt; done = flow_of a ask port a' v w }
-flow_here ask port (Rank' p difs below) (Rank' p' difs' below') v w = absurd (elim w.0 [
-  | inl h ↦
-      let g = served (λ s s'. Allocates (Some allocate.Unbuilt) s ask (Ok port) s') ask.fac h.dif h.dif' difs difs' h.is_dif h.new_is h.done in
-      refuses_all (slice_get (map fac_of_dif difs) ask.fac) ask g.0
-  | inr h ↦ (let no : Ok port ≡ Err allocate.NoMember = h.1 in cc)
-])
+flow_here ask port (Wires a) (Wires a') v w =
+    let kept = (sound_allocates a ask (Ok port) a' v w).kept in
+    record { below = tt; done = flow_of ask port (seen_of_wires a) (seen_of_wires a') (ports_kept (seen_of_wires a') kept) (seen_allocates a ask (Ok port) a' v w).1 }
+flow_here ask port (Rank' p difs below) (Rank' p' difs' below') v w =
+    let rank = rank_allocates ask (Ok port) (Ok port ≡ Err allocate.NoMember) difs difs' below v.0 v.1 w.0 in
+    let s = seen_of_difs (now_of below) difs in
+    let s' = seen_of_difs (now_of below) difs' in
+    record { below = w.1; done = flow_of ask port s s' (ports_kept s' rank.kept) (allocates_seen ask (Ok port) difs difs' below v.0 w.0).1 }
 flow_here ask port (Wires a) (Rank' p difs below) v w = absurd w
 flow_here ask port (Rank' p difs below) (Wires a) v w = absurd w
 
@@ -128,14 +149,14 @@ left_false : (a b : Bool) → a || b ≡ false → a ≡ false
 left_false true b h = h
 left_false false b h = refl
 
--- two ends stand in a facility of rank r, and nothing else changed
+-- the ends stand in a facility of rank r, and nothing else changed
 pub record HasFlow (r : ℕ) (ask : Ask) (port : Port) (g g' : Shown) : Type 0 where
   pub asker : End
-  pub far : End
+  pub far : Option End
   pub its : port ≡ asker.port
   pub plain : is_ipc asker.app ≡ false
-  pub asker_new : (asker.sent ≡ []) × (asker.got ≡ []) × (asker.taken ≡ 0)
-  pub far_new : (far.sent ≡ []) × (far.got ≡ []) × (far.taken ≡ 0)
+  pub asker_new : IsBlank asker
+  pub far_new : (e : End) → far ≡ Some e → IsBlank e
   pub grown : GrownAt g r ask.fac asker far g'
   pub ports : AllPorts g'
 
@@ -197,24 +218,19 @@ refused_on a ask (allocate.Busy port) a' g = ap seen_of_wires g.air
 refused_on a ask (allocate.CountSpent n k) a' g = ap seen_of_wires g.air
 refused_on a ask allocate.Unbuilt a' g = ap seen_of_wires g.air
 
-pub rests_ask : (ask : Ask) (e : AllocateError) (u u' : Tower) → AllocatesAtTop ask (Err e) u u' → RestsHere u u'
-rests_ask ask e (Wires a) (Wires a') w = record { below = tt; rests = rest_same (facs_of (Wires a)) (facs_of (Wires a')) (ap (λ (z : Seen). z.facs) (refused_on a ask e a' w)) }
-rests_ask ask e (Rank' p difs below) (Rank' p' difs' below') w = record {
-  below = w.1;
-  rests = elim w.0 [
-    | inl h ↦
-        let g = served (λ s s'. Allocates (Some allocate.Unbuilt) s ask (Err e) s') ask.fac h.dif h.dif' difs difs' h.is_dif h.new_is h.done in
-        rest_same (map fac_of_dif difs) (map fac_of_dif difs') (ap (λ (z : Seen). z.facs) (refused_same (Some allocate.Unbuilt) (seen_of_difs h.dif.clock difs) ask e (seen_of_difs h.dif.clock difs') g))
-    | inr h ↦ rest_same (map fac_of_dif difs) (map fac_of_dif difs') (ap (map fac_of_dif) h.2)
-  ];
-}
-rests_ask ask e (Wires a) (Rank' p difs below) w = absurd w
-rests_ask ask e (Rank' p difs below) (Wires a) w = absurd w
+pub rests_ask : (ask : Ask) (e : AllocateError) (u u' : Tower) → IsTower u → AllocatesAtTop ask (Err e) u u' → RestsHere u u'
+rests_ask ask e (Wires a) (Wires a') v w = record { below = tt; rests = rest_same (facs_of (Wires a)) (facs_of (Wires a')) (ap (λ (z : Seen). z.facs) (refused_on a ask e a' w)) }
+rests_ask ask e (Rank' p difs below) (Rank' p' difs' below') v w =
+    let s = seen_of_difs (now_of below) difs in
+    let s' = seen_of_difs (now_of below) difs' in
+    record { below = w.1; rests = rest_same s.facs s'.facs (ap (λ (z : Seen). z.facs) (refused_same (own_allocate difs ask) s ask e s' (allocates_seen ask (Err e) difs difs' below v.0 w.0))) }
+rests_ask ask e (Wires a) (Rank' p difs below) v w = absurd w
+rests_ask ask e (Rank' p difs below) (Wires a) v w = absurd w
 
-ask_refusal : (ask : Ask) (e : AppError AllocateError) (u u' : Tower) → AllocatesThere ask (Err e) u u' → RestsHere u u'
-ask_refusal ask (apps.Call e) u u' w = rests_ask ask e u u' w.1
-ask_refusal ask apps.NotYours u u' w = rests_nothing u u' w.1
-ask_refusal ask apps.NoRank u u' w = absurd w
+ask_refusal : (ask : Ask) (e : AppError AllocateError) (u u' : Tower) → IsTower u → AllocatesThere ask (Err e) u u' → RestsHere u u'
+ask_refusal ask (apps.Call e) u u' v w = rests_ask ask e u u' v w.1
+ask_refusal ask apps.NotYours u u' v w = rests_nothing u u' w.1
+ask_refusal ask apps.NoRank u u' v w = absurd w
 
 pub app_ask_refused : (r : ℕ) (ask : Ask) (e : AppError AllocateError) (t t' : Tower) → IsTower t → AppAllocates r ask (Err e) t t' → AllRest t t'
-app_ask_refused r ask e t t' v d = call_rests r (AllocatesThere ask (Err e)) _ t t' v (λ u u' k w. ask_refusal ask e u u' w) d
+app_ask_refused r ask e t t' v d = call_rests r (AllocatesThere ask (Err e)) _ t t' v (λ u u' k w. ask_refusal ask e u u' k w) d

@@ -67,6 +67,7 @@ named_given g ls l a unknown bare waits = record {
         let its : r ≡ l.rank = sym rank ∙ ap (λ (z : Label). z.rank) o.1 in
         waits n at place e (subst (λ (q : ℕ). WaitsAt g q n at place) its w) (subst (λ (q : ℕ). HoldsAt g q n place e) its h) (ap (λ (z : Label). z.port) (sym o.1) ∙ same)
   ];
+  within = a.within;
   once = a.once;
 }
 

@@ -42,10 +42,11 @@ rest_all V g g' v a = record { rank = λ r. both_as Rest (MovesIn V none) (g r) 
 pub shown_rest : {X : Type 0} (V : End → List X) (told : List ℕ → List X) (g g' : Shown) (ls : List Label) → IsView V → AtAll (λ r. Rest) g g' → KeepsShown V told g ls → KeepsShown V told g' ls
 shown_rest V told g g' ls v a k =
     let mv = rest_all V g g' v a in
+    let ports = ports_move V (λ r. none) g g' mv k.ports in
     record {
-      ports = ports_move V (λ r. none) g g' mv k.ports;
+      ports = ports;
       fits = fit_moves V (λ r. none) g g' mv k.fits;
-      named = named_moves V (λ r. none) g g' ls mv k.named;
+      named = named_moves V (λ r. none) told g g' ls mv ports k.tells k.named;
       tells = tells_same V (λ name. told name ++ []) told g' ls (λ name. sym (append-nil (told name))) (tells_moves V (λ r. none) told (λ name. []) g g' ls mv k.fits k.tells (λ j l is. refl) (λ r p bare. refl) (λ name unknown. refl));
     }
 
@@ -108,10 +109,11 @@ pub keeps_at : {X : Type 0} (V : End → List X) (told new : List ℕ → List X
     → ((other : List ℕ) → name ≡ other → new other ≡ xs) → ((other : List ℕ) → name ≢ other → new other ≡ []) → Keeps V told t ls → Keeps V (λ other. told other ++ new other) t' ls
 keeps_at V told new name p xs t t' ls found mv same others k =
     let f = has_label ls name p found in
+    let ports = ports_move V (at_spot p.0 p.1 xs) (shown t) (shown t') mv k.ports in
     record {
-      ports = ports_move V (at_spot p.0 p.1 xs) (shown t) (shown t') mv k.ports;
+      ports = ports;
       fits = fit_moves V (at_spot p.0 p.1 xs) (shown t) (shown t') mv k.fits;
-      named = named_moves V (at_spot p.0 p.1 xs) (shown t) (shown t') ls mv k.named;
+      named = named_moves V (at_spot p.0 p.1 xs) told (shown t) (shown t') ls mv ports k.tells k.named;
       tells = tells_moves V (at_spot p.0 p.1 xs) told new (shown t) (shown t') ls mv k.fits k.tells
           (λ j l is. elim (name_tells name l.name) [
             | inl e ↦ (let one = k.named.names j f.place l f.label is f.is (sym e ∙ sym f.its) in spot_same p.0 p.1 xs l.rank l.port (one.0 ∙ f.rank_is) (one.1 ∙ f.port_is) ∙ sym (same l.name e))

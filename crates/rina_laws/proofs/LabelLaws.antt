@@ -44,10 +44,10 @@ still_by : {X : Type 0} (W : End → List X) (e e' : End) (b : Bool) → is_ipc 
 still_by W e e' true is app same = hides W e' (ap is_ipc app ∙ is) ∙ sym (hides W e is)
 still_by W e e' false is app same = unveiled W e' (ap is_ipc app ∙ is) ∙ (same is ∙ sym (unveiled W e is))
 
-veils : {X : Type 0} (W : End → List X) → ((e : End) → e.sent ≡ [] → e.got ≡ [] → W e ≡ []) → ((e e' : End) → IsStill e e' → e.taken ≤ length e.got → W e' ≡ W e) → IsView (veiled W)
+veils : {X : Type 0} (W : End → List X) → ((e : End) → e.sent ≡ [] → e.taken ≡ 0 → W e ≡ []) → ((e e' : End) → IsStill e e' → e.taken ≤ length e.got → W e' ≡ W e) → IsView (veiled W)
 veils W fresh still = record {
   hidden = λ e ipc. hides W e ipc;
-  fresh = λ e sent got. empty_by (is_ipc e.app) (W e) (fresh e sent got);
+  fresh = λ e sent taken. empty_by (is_ipc e.app) (W e) (fresh e sent taken);
   still = λ e e' app s fits. still_by W e e' (is_ipc e.app) refl app (λ plain. still e e' s (fits plain));
 }
 
@@ -81,7 +81,7 @@ sends_other label bytes other ne = rw (differs label other (bytes_eq label other
 
 sent_telling : (lines : List (List ℕ)) → IsTelling lines (veiled sent_view) (sent_by lines) (λ x. x ∷ []) (λ x. [])
 sent_telling lines = record {
-  view = veils sent_view (λ e sent got. sent) (λ e e' s fits. s.sent);
+  view = veils sent_view (λ e sent taken. sent) (λ e e' s fits. s.sent);
   state = λ name number tick label s. refl;
   refused = λ name number tick why. refl;
   nothing = λ name number tick. refl;
@@ -130,19 +130,15 @@ got_more e x h =
     let is : get_or e.got e.taken x ≡ x = get_or_from_slice_get e.got e.taken x x h in
     ap (map sdu_of) (one ∙ ap (λ y. take e.taken e.got ++ y ∷ []) is) ∙ map-append sdu_of (take e.taken e.got) (x ∷ [])
 
-take_none : (n : ℕ) (none : List Entry) → none ≡ [] → take n none ≡ []
-take_none zero none is = refl
-take_none (suc n) none is = rw is refl
-
-got_fresh : (e : End) → e.got ≡ [] → map sdu_of (take e.taken e.got) ≡ []
-got_fresh e none = ap (map sdu_of) (take_none e.taken e.got none)
+got_fresh : (e : End) → e.taken ≡ 0 → map sdu_of (take e.taken e.got) ≡ []
+got_fresh e none = ap (λ (n : ℕ). map sdu_of (take n e.got)) none
 
 got_still : (e e' : End) → IsStill e e' → e.taken ≤ length e.got → map sdu_of (take e'.taken e'.got) ≡ map sdu_of (take e.taken e.got)
 got_still e e' s fits = ap (map sdu_of) (ap (λ (n : ℕ). take n e'.got) s.taken ∙ (ap (take e.taken) s.got ∙ take-append-le e.taken e.got s.more fits))
 
 got_telling : (lines : List (List ℕ)) → IsTelling lines (veiled got_view) (got_by lines) (λ x. []) (λ x. sdu_of x ∷ [])
 got_telling lines = record {
-  view = veils got_view (λ e sent got. got_fresh e got) got_still;
+  view = veils got_view (λ e sent taken. got_fresh e taken) got_still;
   state = λ name number tick label s. refl;
   refused = λ name number tick why. refl;
   nothing = λ name number tick. refl;

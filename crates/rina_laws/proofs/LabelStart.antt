@@ -1,9 +1,10 @@
 -- Before the first line of a run the labels of the stack's flows tell the journals of their ends, which are empty.
-use Rattle.std.proofs.Common.{arith, ◌≡◌, ◌≢◌, ◌∙◌, ◌==◌, ◌+◌, ◌*◌, ◌<◌, ℕ, Bool, true, false, List, [], nat_lt, slice_get, take, Option, Some, option_map, refl, sym, ap, subst, inl, inr, ◌⊎◌}
+use Rattle.std.proofs.Common.{arith, ◌≡◌, ◌≢◌, ◌∙◌, ◌==◌, ◌+◌, ◌*◌, ◌<◌, ◌≤◌, ℕ, Bool, true, false, List, [], length, nat_lt, slice_get, take, Option, Some, option_map, refl, sym, ap, subst, inl, inr, ◌⊎◌}
 use Rattle.std.specs.Prelude.{count_by, option_and_then}
 use Rattle.std.proofs.lemmas.Bool.Decides.{eqb_tells, nat_tests}
 use Rattle.std.proofs.lemmas.Option.{get_or_from_slice_get, same_Some, slice_get-map, slice_get_within}
 use Rattle.rina_base.specs.declared.number.Port.{Port}
+use Rattle.rina_law.specs.declared.entry.Entry.{Entry}
 use Rattle.rina_iface.specs.declared.ends.End.{End}
 use Rattle.rina_iface.specs.Seen.{Fac}
 use Rattle.rina_plan.specs.declared.dif.DifPlan.{DifPlan}
@@ -31,12 +32,11 @@ use Rattle.rina_notes.specs.Look.{ends_at, or_no_ends}
 use Rattle.rina_run.specs.Opening.{IsOpening}
 use Rattle.rina_words.specs.Step.{Stage}
 use Rattle.rina_laws.proofs.LabelBuilt.{built_blank}
-use Rattle.rina_laws.proofs.LabelGrown.{one_place_at}
 use Rattle.rina_laws.proofs.LabelLines.{Stays}
 use Rattle.rina_laws.proofs.LabelMoves.{IsView}
 use Rattle.rina_laws.proofs.LabelRanks.{AllPorts, facs_of, ports_of, rank_kept, shown}
 use Rattle.rina_laws.proofs.LabelSpots.{IsSpot, behind, name_of, names_from, side_of, spot_of}
-use Rattle.rina_laws.proofs.LabelTells.{AllFit, HoldsAt, WaitsAt}
+use Rattle.rina_laws.proofs.LabelTells.{AllFit, HoldsAt, WaitsAt, one_place_at}
 
 -- the labels of a stack's flows differ, since a stack with two of one name is refused
 labels_differ : (plan : Plan) → IsPlan plan → AreDistinct (labels plan.difs)
@@ -151,20 +151,24 @@ none_waits plan t r n at place built w =
     let none : slice_get [] at ≡ Some place = subst (λ (xs : List ℕ). slice_get xs at ≡ Some place) blank.waiting w.waits.is in
     cc
 
-blank_end : (plan : Plan) (t : Tower) (r n i : ℕ) (e : End) → IsBuilt plan t → HoldsAt (shown t) r n i e → (e.sent ≡ []) × (e.got ≡ [])
-blank_end plan t r n i e built h =
+taken_came : (t : Tower) → IsTower t → (r n i : ℕ) (e : End) → HoldsAt (shown t) r n i e → e.taken ≤ length e.got
+taken_came t v r n i e h =
+    let m = is_mapped facs_of (rank_of t r) h.facs h.is_rank in
+    let kept = kept_of m.0 (rank_kept t r m.0 v m.1) in
+    let at = subst (λ (fs : List Fac). slice_get fs n ≡ Some h.holds.facility) (sym m.2) h.holds.stands in
+    ((kept.kept n h.holds.facility at).whole i e h.holds.is).taken
+
+blank_end : (plan : Plan) (t : Tower) → IsTower t → (r n i : ℕ) (e : End) → IsBuilt plan t → HoldsAt (shown t) r n i e → (e.sent ≡ []) × (e.taken ≡ 0)
+blank_end plan t v r n i e built h =
     let m = is_mapped facs_of (rank_of t r) h.facs h.is_rank in
     let blank = (built_blank plan t r m.0 built m.1).of n h.holds.facility (subst (λ (fs : List Fac). slice_get fs n ≡ Some h.holds.facility) (sym m.2) h.holds.stands) in
-    blank.ends i e h.holds.is
+    let none = blank.ends i e h.holds.is in
+    let came = taken_came t v r n i e h in
+    let got : length e.got ≡ 0 = ap (λ (xs : List Entry). length xs) none.1 in
+    (none.0, omega (arith, came, got))
 
 fit_tower : (t : Tower) → IsTower t → AllFit (shown t)
-fit_tower t v = record {
-  of = λ r n i e h plain.
-      let m = is_mapped facs_of (rank_of t r) h.facs h.is_rank in
-      let kept = kept_of m.0 (rank_kept t r m.0 v m.1) in
-      let at = subst (λ (fs : List Fac). slice_get fs n ≡ Some h.holds.facility) (sym m.2) h.holds.stands in
-      ((kept.kept n h.holds.facility at).whole i e h.holds.is).taken;
-}
+fit_tower t v = record { of = λ r n i e h plain. taken_came t v r n i e h }
 
 pub start_stays : {X : Type 0} (V : End → List X) (plan : Plan) (shelf : List Slot) (s : Stage) → IsView V → IsPlan plan → IsOpening plan shelf s → Stays V (λ name. []) s
 start_stays V plan shelf s view p o =
@@ -184,14 +188,15 @@ start_stays V plan shelf s view p o =
               (ap (λ (x : Label). x.rank) one, ap (λ (x : Label). x.port) one);
           ports = λ j k l m hl hm rank same. same_name plan s.run.tower l m ports (spot j l hl) (spot k m hm) rank same;
           waits = λ r n at place e w h. absurd (none_waits plan s.run.tower r n at place o.built w);
+          within = λ r n at place w. absurd (none_waits plan s.run.tower r n at place o.built w);
           once = λ r n j k place v w. absurd (none_waits plan s.run.tower r n j place o.built v);
         };
         tells = record {
           stands = λ k l is.
               let x = spot k l is in
-              let blank = blank_end plan s.run.tower l.rank l.port.fac _ x.end o.built x.holds in
+              let blank = blank_end plan s.run.tower o.stands l.rank l.port.fac _ x.end o.built x.holds in
               record { place = _; end = x.end; holds = x.holds; its = x.its; plain = x.plain; view = view.fresh x.end blank.0 blank.1 };
-          fresh = λ r n i e h bare. (let blank = blank_end plan s.run.tower r n i e o.built h in view.fresh e blank.0 blank.1);
+          fresh = λ r n i e h bare. (let blank = blank_end plan s.run.tower o.stands r n i e o.built h in view.fresh e blank.0 blank.1);
           silent = λ name unknown. refl;
         };
       };

@@ -1,19 +1,23 @@
 -- What the steps of DIFs, and rounds of them, do to the ends of all ranks: those of applications rest.
-use Rattle.std.proofs.Common.{◌≡◌, ◌∙◌, ℕ, ◌+◌, List, [], ◌∷◌, map, remove, slice_get, Some, option_map, Result, Ok, refl, sym, ap, subst, inl, inr}
+use Rattle.std.proofs.Common.{◌≡◌, ◌∙◌, ℕ, ◌+◌, List, [], ◌∷◌, length, map, remove, slice_get, Some, option_map, Result, Ok, refl, sym, ap, subst, inl, inr}
+use Rattle.std.proofs.lemmas.Bool.{cases_lt}
 use Rattle.std.proofs.lemmas.List.{map-set}
 use Rattle.std.proofs.lemmas.Option.{same_Some, slice_get-map}
+use Rattle.rina_base.specs.declared.number.Port.{Port}
 use Rattle.rina_policy.specs.declared.policy.Head.{Head}
 use Rattle.rina_policy.specs.Slots.{Slot}
 use Rattle.rina_data.specs.declared.step.ClockStep.{ClockStep}
 use Rattle.rina_data.specs.declared.step.InStep.{InStep}
 use Rattle.rina_data.specs.declared.step.OutStep.{OutStep}
 use Rattle.rina_data.specs.declared.step.StepError.{StepError}
+use Rattle.rina_data.proofs.Finding.{there}
 use Rattle.rina_dif_law.specs.Upward.{IsSilent}
 use Rattle.rina_dif.specs.declared.cdap.CdapCallError.{CdapCallError}
 use Rattle.rina_dif.specs.declared.dif.Dif.{Dif}
 use Rattle.rina_dif.specs.Shown.{seen_of as seen_of_dif}
+use Rattle.rina_dif.proofs.Waiting.{no_fewer}
 use Rattle.rina_iface.specs.declared.ends.End.{End}
-use Rattle.rina_iface.specs.Journal.{At}
+use Rattle.rina_iface.specs.Journal.{At, HasPorts}
 use Rattle.rina_iface.specs.Seen.{Fac, Seen, with_end}
 use Rattle.rina_tower.specs.declared.tower.Tower.{Tower, Rank', Wires}
 use Rattle.rina_tower.specs.Cdap.{AsksAt, AsksAtTop}
@@ -26,7 +30,7 @@ use Rattle.rina_tower.specs.Levels.{AtDif, AtRank}
 use Rattle.rina_tower.proofs.Asked.{asked_facs}
 use Rattle.rina_laws.proofs.LabelCalls.{AllRest, frees, rest_idle}
 use Rattle.rina_laws.proofs.LabelRanks.{DoesAll, IsAlone, alone_refl, at_rank, at_rank_more, at_top, facs_of, is_alone, level}
-use Rattle.rina_laws.proofs.LabelRests.{Rest, RestFac, Rests, ends_same, ends_set, rest_on, rest_same, rest_set, rests_still, wait_less, wait_same}
+use Rattle.rina_laws.proofs.LabelRests.{AreOf, Rest, RestFac, Rests, ends_same, ends_set, rest_on, rest_same, rest_set, rests_still, wait_less, wait_more, wait_same}
 
 -- ---- one DIF
 
@@ -39,15 +43,42 @@ later_rests d d' s i e e' x y =
     let app : e'.app ≡ e.app = ap (λ (z : End). z.app) (sym one) ∙ l.2.app in
     rests_still e e' port app same.0 same.1 l.2.got.more (ap (λ (z : End). z.got) (sym one) ∙ l.2.got.is)
 
+-- each port is that of its DIF, as the port of the asker of a new far end is
+own_ports : (d d' : Dif) → IsSilent (seen_of_dif d) (seen_of_dif d') → HasPorts (seen_of_dif d').config.fac (fac_of_dif d') → (n : ℕ) → AreOf n (fac_of_dif d).ends → AreOf n (fac_of_dif d').ends
+own_ports d d' s ports n own i e y = elim (cases_lt i (length (fac_of_dif d).ends)) [
+  | inl low ↦ (let a = there (fac_of_dif d).ends i low in of_old i a.0 a.1 e y)
+  | inr past ↦
+      let f = s.fresh i e y past in
+      let a = s.later.ends f.place f.asker f.stands in
+      ports.own i e y ∙ sym (ports.own f.place a.0 a.1) ∙ of_old f.place f.asker f.stands a.0 a.1
+]
+  where
+    of_old : (k : ℕ) (a : End) → At (fac_of_dif d).ends k a → (b : End) → At (fac_of_dif d').ends k b → b.port.fac ≡ n
+    of_old k a x b z = ap (λ (q : Port). q.fac) (later_rests d d' s k a b x z).port ∙ own k a x
+
 dif_rests : (below below' : Seen) (d d' : Dif) → StandsAfter below below' d d' → RestFac (fac_of_dif d) (fac_of_dif d')
-dif_rests below below' d d' k = record { ends = record { size = k.silent.number; each = later_rests d d' k.silent }; waiting = wait_same (fac_of_dif d).waiting (fac_of_dif d').waiting k.waiting }
+dif_rests below below' d d' k =
+    let s = k.silent in
+    let w = k.waiting in
+    let es : List End = (fac_of_dif d).ends in
+    let es' : List End = (fac_of_dif d').ends in
+    record {
+      ends = record {
+        longer = no_fewer (seen_of_dif d).clock (seen_of_dif d').clock es es' s.later.ends;
+        each = later_rests d d' s;
+        fresh = λ i e y past. (let f = s.fresh i e y past in inr (f.sent, f.taken));
+        own = own_ports d d' s k.stands.1.standing.ports;
+        apart = λ apart. k.stands.1.standing.ports.apart;
+      };
+      waiting = wait_more (fac_of_dif d) (fac_of_dif d') w.more w.waiting w.are_new w.once;
+    }
 
 one_rests : (s s' : Seen) → UsesOne s s' → Rest s.facs s'.facs
 one_rests s s' (inl is) = rest_same s.facs s'.facs (ap (λ (x : Seen). x.facs) is)
 one_rests s s' (inr (inr u)) = frees u.both s u.port (Ok tt) s' u.freed
 one_rests s s' (inr (inl u)) =
     let rests : Rests u.end u.end' = record { port = u.its_port; app = u.its_app; rests = inl u.ipc } in
-    subst (Rest s.facs) (sym (ap (λ (x : Seen). x.facs) u.new_is)) (rest_set s.facs u.port.fac u.facility (with_end u.facility u.place u.end') u.stands.facility (record { ends = ends_set u.facility.ends u.place u.end u.end' u.stands.is rests; waiting = wait_same u.facility.waiting u.facility.waiting refl }))
+    subst (Rest s.facs) (sym (ap (λ (x : Seen). x.facs) u.new_is)) (rest_set s.facs u.port.fac u.facility (with_end u.facility u.place u.end') u.stands.facility (record { ends = ends_set u.facility.ends u.place u.end u.end' u.stands.is rests; waiting = wait_same u.facility (with_end u.facility u.place u.end') refl }))
 
 -- a far end that is claimed waits no more
 claim_rests : (s s' : Seen) → MayClaim s s' → Rest s.facs s'.facs
@@ -55,7 +86,7 @@ claim_rests s s' (inl is) = rest_same s.facs s'.facs (ap (λ (x : Seen). x.facs)
 claim_rests s s' (inr c) =
     let k = c.claimed in
     let f : Fac = record k.facility { waiting = remove k.facility.waiting k.at } in
-    subst (Rest s.facs) (sym (ap (λ (x : Seen). x.facs) k.new_is)) (rest_set s.facs c.fac k.facility f k.stands (record { ends = ends_same k.facility.ends k.facility.ends refl; waiting = wait_less k.facility.waiting k.at }))
+    subst (Rest s.facs) (sym (ap (λ (x : Seen). x.facs) k.new_is)) (rest_set s.facs c.fac k.facility f k.stands (record { ends = ends_same k.facility.ends k.facility.ends refl; waiting = wait_less k.facility f k.at refl }))
 
 uses_rest : (s s' : Seen) → MayUse s s' → Rest s.facs s'.facs
 uses_rest s s' u = rest_on s.facs u.mid.facs s'.facs (claim_rests s u.mid u.claims) (one_rests u.mid s' u.uses)

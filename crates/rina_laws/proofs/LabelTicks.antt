@@ -22,7 +22,7 @@ use Rattle.rina_tower.specs.ClockTick.{AreClocked, Ticks}
 use Rattle.rina_tower.specs.Levels.{AtWires}
 use Rattle.rina_laws.proofs.LabelCalls.{AllRest, rest_idle, restated}
 use Rattle.rina_laws.proofs.LabelRanks.{DoesAll, at_air, at_rank_more, at_wires, facs_of}
-use Rattle.rina_laws.proofs.LabelRests.{Rest, RestEnds, RestFac, Rests, ends_on, ends_same, ends_set, fac_same, rest_same, rest_set, rests_still, wait_same}
+use Rattle.rina_laws.proofs.LabelRests.{Rest, RestEnds, RestFac, Rests, ends_each, ends_on, ends_same, ends_set, fac_same, rest_same, rest_set, rests_still, wait_same}
 
 -- ---- arrivals on a wire
 
@@ -40,7 +40,7 @@ fold_rests now es [] = ends_same es es refl
 fold_rests now es (f ∷ fs) = ends_on es (looked_at now es f) (fold (looked_at now) (looked_at now es f) fs) (looked_rest now es f) (fold_rests now (looked_at now es f) fs)
 
 line_rests : (now : ℕ) (l : Line) → RestFac (fac_of l) (fac_of (line_ticked now l))
-line_rests now l = record { ends = fold_rests now l.ends l.flights; waiting = wait_same l.waiting l.waiting refl }
+line_rests now l = record { ends = fold_rests now l.ends l.flights; waiting = wait_same (fac_of l) (fac_of (line_ticked now l)) refl }
 
 -- what is made of each, seen from before and after
 mapped_rest : {X : Type 0} (h h' : X → Fac) (xs : List X) → ((x : X) → RestFac (h x) (h' x)) → Rest (map h xs) (map h' xs)
@@ -110,14 +110,11 @@ mend_rests wire r t t' w = event_rests _ t t' (λ a a' d. unseen a a' (mends_uns
 
 states_rest : (l l' : Line) → OnlyStates l l' → RestFac (fac_of l) (fac_of l')
 states_rest l l' o = record {
-  ends = record {
-    size = o.size;
-    each = λ i e e' x y.
-        let w = o.was i e' y in
-        let one : w.0 ≡ e = same_Some w.0 e (sym w.1 ∙ x) in
-        subst (λ (z : End). Rests z e') one (subst (Rests w.0) (sym w.2) (restated w.0 e'.state));
-  };
-  waiting = wait_same l.waiting l'.waiting o.waiting;
+  ends = ends_each l.ends l'.ends o.size (λ i e e' x y.
+      let w = o.was i e' y in
+      let one : w.0 ≡ e = same_Some w.0 e (sym w.1 ∙ x) in
+      subst (λ (z : End). Rests z e') one (subst (Rests w.0) (sym w.2) (restated w.0 e'.state)));
+  waiting = wait_same (fac_of l) (fac_of l') o.waiting;
 }
 
 cut_wire : (a : Air) (wire : ℕ) (o : Option Line) → wire_at a wire ≡ o → Rest (facs_of (Wires a)) (facs_of (Wires (on_wire a wire (cut_line a.now))))

@@ -101,9 +101,9 @@ allocated_by V told plan label fac node rank w ask says w' (Ok port) c is view v
     let labels : w'.labels ≡ w.labels ++ label_of label w'.tower rank port ∷ [] = rw is at c.labels in
     subst (Keeps V told w'.tower) (sym labels) (record {
       ports = f.ports;
-      fits = fit_grown (shown w.tower) (shown w'.tower) rank ask.fac f.asker f.far f.grown (new_fits f.asker f.asker_new.2) (new_fits f.far f.far_new.2) k.fits;
+      fits = fit_grown (shown w.tower) (shown w'.tower) rank ask.fac f.asker f.far f.grown (new_fits f.asker f.asker_new.2) (λ e one. new_fits e (f.far_new e one).2) k.fits;
       named = named_grown V told (shown w.tower) (shown w'.tower) ask.fac f.asker f.far w.labels (label_of label w'.tower rank port) f.ports f.grown f.its k.tells k.named unknown;
-      tells = tells_grown V told (shown w.tower) (shown w'.tower) ask.fac f.asker f.far w.labels (label_of label w'.tower rank port) f.ports f.grown f.its f.plain (view.fresh f.asker f.asker_new.0 f.asker_new.1) (view.fresh f.far f.far_new.0 f.far_new.1) k.tells unknown;
+      tells = tells_grown V told (shown w.tower) (shown w'.tower) ask.fac f.asker f.far w.labels (label_of label w'.tower rank port) f.ports f.grown f.its f.plain (view.fresh f.asker f.asker_new.0 f.asker_new.2) (λ e one. (let new = f.far_new e one in view.fresh e new.0 new.2)) k.tells unknown;
     })
 allocated_by V told plan label fac node rank w ask says w' (Err e) c is view v unknown k =
     let does : AppAllocates rank ask (Err e) w.tower w'.tower = subst (λ r. AppAllocates rank ask r w.tower w'.tower) is c.does in

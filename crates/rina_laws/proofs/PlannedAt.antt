@@ -115,7 +115,7 @@ unregisters plan fac node app r (Rank' p difs below) (Wires a) d = absurd d
 
 pub allocates : (plan : Plan) (ask : Ask) (r : Result Port AllocateError) (t t' : Tower) → AllocatesAtTop ask r t t' → Keeps plan t t'
 allocates plan ask r (Wires a) (Wires a') d = (refl, λ h. tt)
-allocates plan ask r (Rank' p difs below) (Rank' p' difs' below') d = keeps_below plan (Rank' p difs below) (Rank' p' difs' below') (any_stays _ _ _ difs difs' (λ x x' s. serves_stays _ _ x x' s) d.0, d.1)
+allocates plan ask r (Rank' p difs below) (Rank' p' difs' below') d = keeps_below plan (Rank' p difs below) (Rank' p' difs' below') (any_stays _ _ _ difs difs' (λ x x' s. serves_stays _ _ x x' s.serves) d.0, d.1)
 allocates plan ask r (Wires a) (Rank' p difs below) d = absurd d
 allocates plan ask r (Rank' p difs below) (Wires a) d = absurd d
 

@@ -146,7 +146,11 @@ passes P kept rank port t (x ∷ xs) t' h (mid, waits, one, others) = passes P k
 passed_wires : (P : Air → Type 0) (kept : Keeps P) (x : Result InStep StepError) (a a' : Air) → P a → PassesBelow (Wires a' ≡ Wires a) (PassesAsSeen seen_of (λ t port t'. PassesAtTop port t t') (Wires a) (Wires a')) x → P a'
 passed_wires P kept (Ok ins.Idle) a a' h d = subst (Holds P) (sym d) h
 passed_wires P kept (Ok (ins.Took key end)) a a' h d = subst P (sym d.1.2) (kept.passes a d.0 d.1.0 h)
-passed_wires P kept (Err e) a a' h d = subst (Holds P) (sym d) h
+passed_wires P kept (Err Memory) a a' h (inl d) = subst (Holds P) (sym d) h
+passed_wires P kept (Err Memory) a a' h (inr d) = subst P (sym d.1.2) (kept.passes a d.0 d.1.0 h)
+passed_wires P kept (Err NoIpc) a a' h d = subst (Holds P) (sym d) h
+passed_wires P kept (Err NoLink) a a' h d = subst (Holds P) (sym d) h
+passed_wires P kept (Err (CountSpent need left)) a a' h d = subst (Holds P) (sym d) h
 
 pub ins_here : (P : Air → Type 0) (kept : Keeps P) (dif node link : ℕ) (x : Result InStep StepError) (u u' : Tower) → Holds P u → InStepsAtTop dif node link x u u' → Holds P u'
 ins_here P kept dif node link x (Wires a) (Wires a') h d = subst P (sym d.1) h

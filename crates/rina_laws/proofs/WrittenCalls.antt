@@ -9,7 +9,6 @@ use Rattle.rina_base.specs.declared.number.Num.{Num}
 use Rattle.rina_base.specs.declared.number.Port.{Port}
 use Rattle.rina_iface.specs.declared.ask.Ask.{Ask}
 use Rattle.rina_iface.specs.declared.error.AllocateError.{AllocateError}
-use Rattle.rina_iface.specs.declared.error.AllocateError.TheVariants as allocate
 use Rattle.rina_iface.specs.declared.error.FreeError.{FreeError}
 use Rattle.rina_iface.specs.declared.error.RegisterError.{RegisterError}
 use Rattle.rina_iface.specs.declared.error.SendError.{SendError}
@@ -43,17 +42,17 @@ use Rattle.rina_wire.proofs.SoundSend.{sound_sends}
 use Rattle.rina_tower.specs.declared.tower.Tower.{Tower, Wires, Rank'}
 use Rattle.rina_tower.specs.Applications.{is_ipc_at}
 use Rattle.rina_tower.specs.Bystanders.{Anyone, IsIpc, LeavesNow, is_ipc}
-use Rattle.rina_tower.specs.Calls.{AllocatesAtTop, ClaimsAtTop, FreesAtTop, FreesFrom, PassesAtTop, PassesFrom, RegistersAtTop, RegistersFrom, SendsAtTop, SendsFrom, Serves, UnregistersAtTop, UnregistersFrom}
+use Rattle.rina_tower.specs.Calls.{AllocatesAtTop, AllocatesFrom, ClaimsAtTop, FreesAtTop, FreesFrom, PassesAtTop, PassesFrom, RegistersAtTop, RegistersFrom, SendsAtTop, SendsFrom, Serves, UnregistersAtTop, UnregistersFrom}
 use Rattle.rina_tower.specs.Cdap.{AsksAtTop, AsksOne}
 use Rattle.rina_tower.specs.Levels.{AtDif, IsAtDif}
 use Rattle.rina_tower.specs.Ranks.{now_of, seen_of, seen_of_difs}
-use Rattle.rina_tower.specs.Refusals.{own_register, own_unregister}
+use Rattle.rina_tower.specs.Refusals.{own_allocate, own_register, own_unregister}
 use Rattle.rina_tower.specs.Stands.{IsRank, IsTower}
-use Rattle.rina_tower.specs.Unchanged.{ChangesClaims, ChangesNothing}
+use Rattle.rina_tower.specs.Unchanged.{ChangesClaims}
 use Rattle.rina_tower.proofs.Alone.{fewer_now}
 use Rattle.rina_tower.proofs.Asked.{asked_alone, asked_rank}
 use Rattle.rina_tower.proofs.Calling.{claims_alone, frees_alone, registers_alone, unregisters_alone}
-use Rattle.rina_tower.proofs.Serving.{allocates_seen, claims_seen, frees_seen, passes_seen, rank_frees, rank_passes, rank_registers, rank_sends, rank_serves, rank_unregisters, registers_seen, sends_seen, unregisters_seen}
+use Rattle.rina_tower.proofs.Serving.{allocates_seen, claims_seen, frees_seen, passes_seen, rank_allocates, rank_frees, rank_passes, rank_registers, rank_sends, rank_serves, rank_unregisters, registers_seen, sends_seen, unregisters_seen}
 use Rattle.rina_tower.proofs.Walks.{asked_beside, passed_beside, sent_beside}
 use Rattle.rina_laws.specs.Written.{MayWrite, TakesNoMore}
 use Rattle.rina_laws.proofs.WrittenGoes.{Goes, goes_same}
@@ -138,6 +137,9 @@ unregisters W fac node app x (Rank' p difs below) (Rank' p' difs' below') v d =
 unregisters W fac node app x (Wires a) (Rank' p difs below) v d = absurd d
 unregisters W fac node app x (Rank' p difs below) (Wires a) v d = absurd d
 
+asks_grow : (W : MayBeWritten) (ask : Ask) (x : Result Port AllocateError) (none : Type 0) (difs difs' : List Dif) (below : Tower) → AtDif ask.fac (AllocatesFrom ask x) none difs difs' → RankGrows W difs below difs'
+asks_grow W ask x none difs difs' below a = any_grows W (AllocatesFrom ask x) ask.fac none difs difs' below (λ y y' at s. same_grows W below y y' (ap (λ (z : Dif). z.processes) s.serves.rest)) a
+
 pub allocates : (W : MayBeWritten) (ask : Ask) (x : Result Port AllocateError) (u u' : Tower) → IsTower u → is_ipc ask.app || is_ipc ask.to ≡ false → AllocatesAtTop ask x u u' → Goes W u u'
 allocates W ask x (Wires a) (Wires a') v plain d = record {
   valid = sound_allocates a ask x a' v d;
@@ -147,8 +149,8 @@ allocates W ask x (Wires a) (Wires a') v plain d = record {
 }
 allocates W ask x (Rank' p difs below) (Rank' p' difs' below') v plain d =
     let seen = allocates_seen ask x difs difs' below v.0 d.0 in
-    let alone = asked_beside (Some allocate.Unbuilt) (seen_of_difs (now_of below) difs) ask x (seen_of_difs (now_of below) difs') plain seen in
-    here W p p' difs difs' below below' v (rank_serves _ ask.fac _ difs difs' below v.0 v.1 d.0) alone (serves_grow W ChangesNothing _ ask.fac _ difs difs' below (λ y y' s. ap (λ (z : Dif). z.processes) s) d.0) d.1
+    let alone = asked_beside (own_allocate difs ask) (seen_of_difs (now_of below) difs) ask x (seen_of_difs (now_of below) difs') plain seen in
+    here W p p' difs difs' below below' v (rank_allocates ask x _ difs difs' below v.0 v.1 d.0) alone (asks_grow W ask x _ difs difs' below d.0) d.1
 allocates W ask x (Wires a) (Rank' p difs below) v plain d = absurd d
 allocates W ask x (Rank' p difs below) (Wires a) v plain d = absurd d
 
@@ -156,8 +158,8 @@ allocates W ask x (Rank' p difs below) (Wires a) v plain d = absurd d
 pub allocates_stood : (W : MayBeWritten) (ask : Ask) (x : Result Port AllocateError) (u u' : Tower) → IsTower u → AllocatesAtTop ask x u u' → Stood W u u'
 allocates_stood W ask x (Wires a) (Wires a') v d = record { valid = sound_allocates a ask x a' v d; grows = tt }
 allocates_stood W ask x (Rank' p difs below) (Rank' p' difs' below') v d = subst (λ (b : Tower). Stood W (Rank' p difs below) (Rank' p' difs' b)) (sym d.1) (record {
-  valid = (rank_serves _ ask.fac _ difs difs' below v.0 v.1 d.0, v.1);
-  grows = (serves_grow W ChangesNothing _ ask.fac _ difs difs' below (λ y y' s. ap (λ (z : Dif). z.processes) s) d.0, grows_same W below);
+  valid = (rank_allocates ask x _ difs difs' below v.0 v.1 d.0, v.1);
+  grows = (asks_grow W ask x _ difs difs' below d.0, grows_same W below);
 })
 allocates_stood W ask x (Wires a) (Rank' p difs below) v d = absurd d
 allocates_stood W ask x (Rank' p difs below) (Wires a) v d = absurd d

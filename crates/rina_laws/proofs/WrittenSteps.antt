@@ -25,7 +25,7 @@ use Rattle.rina_dif_law.specs.WriteOffs.{IsOverNow, MayWriteOff, NoPort, Refuses
 use Rattle.rina_dif.specs.declared.dif.Dif.{Dif}
 use Rattle.rina_dif.specs.Holding.{Holds}
 use Rattle.rina_dif.specs.Shown.{seen_of as seen_of_dif}
-use Rattle.rina_dif.specs.WriteOffs.{MayByClock}
+use Rattle.rina_dif.specs.WriteOffs.{MayByClock, MayByIn}
 use Rattle.rina_dif.proofs.Warrants.{clocks_write, ins_at_write, outs_at_write}
 use Rattle.rina_wire.specs.declared.tick.TickError.{TickError}
 use Rattle.rina_wire.specs.Air.{Air}
@@ -58,7 +58,11 @@ use Rattle.rina_laws.proofs.WrittenGrows.{Grows, MayBeWritten, RankGrows, any_gr
 taken_below : (W : MayBeWritten) (x : Result InStep StepError) (b b' : Tower) → IsTower b → PassesBelow (b' ≡ b) (PassesAsSeen seen_of (λ t port t'. PassesAtTop port t t') b b') x → Stood W b b'
 taken_below W (Ok ins.Idle) b b' v d = stood_same W b b' v d
 taken_below W (Ok (ins.Took key end)) b b' v d = passes_stood W d.0 b b' v d.1.0 d.1.2
-taken_below W (Err e) b b' v d = stood_same W b b' v d
+taken_below W (Err Memory) b b' v (inl d) = stood_same W b b' v d
+taken_below W (Err Memory) b b' v (inr d) = passes_stood W d.0 b b' v d.1.0 d.1.2
+taken_below W (Err NoIpc) b b' v d = stood_same W b b' v d
+taken_below W (Err NoLink) b b' v d = stood_same W b b' v d
+taken_below W (Err (CountSpent need left)) b b' v d = stood_same W b b' v d
 
 sent_below : (W : MayBeWritten) (port : Port) (bytes : List ℕ) (r : Result Num SendError) (b b' : Tower) → IsTower b → SendsAsSeen seen_of refuses_send SendsWhole b b' port bytes r → Stood W b b'
 sent_below W port bytes r b b' v d = elim (has_failed b) as (λ z. has_failed b ≡ z → Stood W b b') [
@@ -103,6 +107,10 @@ refuses_now below port h = inl h
 no_port : (below : Tower) (port : Port) → NoPort port → TakesNoMore below port
 no_port below port none = absurd none
 
+may_by_in : (d : Dif) (lines : List Direction) (below : Tower) (node i : ℕ) (off : Off) → Holds d lines (seen_of below) → MayByIn d lines (seen_of below) node i off → MayWrite d below i off
+may_by_in d lines below node i off holds (inl m) = may_write d lines below NoPort i off holds (no_port below) m
+may_by_in d lines below node i off holds (inr m) = record { lines = lines; holds = holds; may = inr (inr (inr (inr (node, m)))) }
+
 pub takes : (dif node link : ℕ) (x : Result InStep StepError) (u u' : Tower) → IsTower u → InStepsAtTop dif node link x u u' → Goes MayWrite u u'
 takes dif node link x (Wires a) (Wires a') v d = goes_same MayWrite (Wires a) (Wires a') v (ap (λ (z : Air). Wires z) d.1)
 takes dif node link x (Rank' p difs below) (Rank' p' difs' below') v d =
@@ -110,7 +118,7 @@ takes dif node link x (Rank' p difs below) (Rank' p' difs' below') v d =
     let Does : Dif → Dif → Type 0 = TakesOne seen node link x (seen_of below') in
     let grows = any_grows MayWrite Does dif _ difs difs' below (λ y y' at s.
     let st = v.0.standing.stand dif y at in
-    writes_grow MayWrite (MayWriteOff (seen_of_dif y) st.0 seen NoPort) below y y' (λ i off m. may_write y st.0 below NoPort i off st.1 (no_port below) m) (ins_at_write y st.0 seen node link x y' (seen_of below') st.1 (s.does st.0 st.1))) d.0 in
+    writes_grow MayWrite (MayByIn y st.0 seen node) below y y' (λ i off m. may_by_in y st.0 below node i off st.1 m) (ins_at_write y st.0 seen node link x y' (seen_of below') st.1 (s.does st.0 st.1))) d.0 in
     stepped MayWrite dif Does ((x ≡ Err NoIpc) × (below' ≡ below)) p p' difs difs' below below' v (λ y y' s. s.after) (λ no. no.1) grows d.0 d.1 (taken_below MayWrite x below below' v.1 d.2)
 takes dif node link x (Wires a) (Rank' p difs below) v d = absurd d
 takes dif node link x (Rank' p difs below) (Wires a) v d = absurd d
@@ -132,7 +140,7 @@ may_by_clock : (d : Dif) (lines : List Direction) (below : Tower) (node i : ℕ)
 may_by_clock d lines below node i off holds (inl m) = may_write d lines below (IsOverNow (seen_of below)) i off holds (over_now below) m
 may_by_clock d lines below node i off holds (inr (inl m)) = record { lines = lines; holds = holds; may = inr (inl m) }
 may_by_clock d lines below node i off holds (inr (inr (inl m))) = record { lines = lines; holds = holds; may = inr (inr (inl (node, m))) }
-may_by_clock d lines below node i off holds (inr (inr (inr m))) = record { lines = lines; holds = holds; may = inr (inr (inr m)) }
+may_by_clock d lines below node i off holds (inr (inr (inr m))) = record { lines = lines; holds = holds; may = inr (inr (inr (inl m))) }
 
 pub does_due : (dif node : ℕ) (x : Result ClockStep StepError) (u u' : Tower) → IsTower u → ClocksAtTop dif node x u u' → Goes MayWrite u u'
 does_due dif node x (Wires a) (Wires a') v d = goes_same MayWrite (Wires a) (Wires a') v (ap (λ (z : Air). Wires z) d.1)

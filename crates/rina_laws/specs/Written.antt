@@ -8,7 +8,7 @@ use Rattle.rina_dif_law.specs.WriteOffs.{IsOverNow, MayWriteOff, RefusesOver}
 use Rattle.rina_dif.specs.declared.dif.Dif.{Dif}
 use Rattle.rina_dif.specs.Holding.{Holds}
 use Rattle.rina_dif.specs.Shown.{seen_of as seen_of_dif}
-use Rattle.rina_dif.specs.WriteOffs.{MayCloseOff, MayFailWith, MayFillOff}
+use Rattle.rina_dif.specs.WriteOffs.{MayCloseOff, MayFailWith, MayFillOff, MayTellOff}
 use Rattle.rina_tower.specs.declared.tower.Tower.{Tower}
 use Rattle.rina_tower.specs.Ledgers.{dif_at, dif_of}
 use Rattle.rina_tower.specs.Ranks.{below_of, rank_of, seen_of}
@@ -28,11 +28,12 @@ TakesNoMore below port = RefusesOver (refuses_send below) (seen_of below) port �
 
 -- the DIF, which stands on this rank, may write the line: the condition of its cause holds of it. Where a link is lost, the open
 -- end of its management connection held the piece; where the flows of its node fail with it, the condition of a line of a later flow
--- holds once the flows before have failed; and where a management connection made the PDU, its queue for the link is full
+-- holds once the flows before have failed; where a management connection made the PDU, its queue for the link is full; and where a message about
+-- a flow closes an end, the condition holds once all before it in the step was handled
 pub record MayWrite (d : Dif) (below : Tower) (i : ℕ) (off : Off) : Type 0 where
   pub lines : List Direction
   pub holds : Holds d lines (seen_of below)
-  pub may : MayWriteOff (seen_of_dif d) lines (seen_of below) (TakesNoMore below) i off ⊎ (MayCloseOff d (seen_of below) i off ⊎ (((node : ℕ) × MayFailWith d lines (seen_of below) node i off) ⊎ MayFillOff d i off))
+  pub may : MayWriteOff (seen_of_dif d) lines (seen_of below) (TakesNoMore below) i off ⊎ (MayCloseOff d (seen_of below) i off ⊎ (((node : ℕ) × MayFailWith d lines (seen_of below) node i off) ⊎ (MayFillOff d i off ⊎ ((node : ℕ) × MayTellOff d lines (seen_of below) node i off))))
 
 -- a step from one tower to the next writes this line: it was not there before, and it is there after; and before the step the
 -- DIF might write it, over the rank below as that was then

@@ -1,7 +1,6 @@
 -- What holds of a member after it handled a message of a neighbour, if each row of its agent keeps it.
-use Rattle.std.proofs.Common.{◌≡◌, inl, inr, ⊎_elim, ◌⊎◌, ℕ, List, [], ◌∷◌, ◌++◌, Option, Some, None, IsSome, Result, Ok, Err, Contains, map, slice_get, slice_set, refl, sym, ap, subst}
+use Rattle.std.proofs.Common.{◌≡◌, ℕ, List, [], ◌∷◌, ◌++◌, Option, Some, None, IsSome, Result, Ok, Err, slice_get, slice_set, refl, sym, ap, subst}
 use Rattle.std.specs.Prelude.{option_and_then, option_map}
-use Rattle.std.proofs.lemmas.List.Elements.{Contains-append_cases}
 use Rattle.std.proofs.lemmas.Option.{none-some, same_Some}
 use Rattle.rina_newest.specs.declared.item.Item.{Item}
 use Rattle.rina_session.specs.Sessions.{Talk}
@@ -11,7 +10,6 @@ use Rattle.rina_enrol.specs.declared.event.EnrolEvent.{EnrolEvent}
 use Rattle.rina_enrol.specs.declared.event.EnrolEvent.TheVariants as events
 use Rattle.rina_enrol.specs.declared.message.LinkMessage.{LinkMessage}
 use Rattle.rina_enrol.specs.declared.message.LinkMessage.TheVariants as messages
-use Rattle.rina_route.proofs.Lists.{cases, contains_unmap, in_none}
 use Rattle.rina_agent.specs.declared.agent.Agent.{Agent}
 use Rattle.rina_agent.specs.declared.enrolment.Enrolment.{Enrolment}
 use Rattle.rina_agent.specs.declared.link.Link.{Link}
@@ -19,13 +17,12 @@ use Rattle.rina_agent.specs.declared.message.Waiting.{Waiting}
 use Rattle.rina_agent.specs.declared.state.AgentError.{AgentError}
 use Rattle.rina_agent.specs.declared.state.MemberState.{MemberState}
 use Rattle.rina_agent.specs.declared.state.MemberState.TheVariants.{Enrolled}
-use Rattle.rina_agent.specs.Agenda.{item_on, near}
+use Rattle.rina_agent.specs.Agenda.{near}
 use Rattle.rina_agent.specs.Counts.{next_of, spent, unless}
 use Rattle.rina_agent.specs.Enrolments.{exchanged, heard_as, heard_at, heard_by, heard_on, hears, place_of}
 use Rattle.rina_agent.specs.Items.{took}
 use Rattle.rina_agent.specs.Rows
 use Rattle.rina_member.specs.Handling.{item_in}
-use Rattle.rina_member.specs.Short.{AreToNeighbours, IsToNeighbour}
 use Rattle.rina_member.proofs.Counting.{both_left}
 
 -- The link on which a message was heard
@@ -59,38 +56,11 @@ place_heard links m replies event (Some at) h is = slot_heard links at m replies
 heard : (links : List Link) (k : ℕ) (m : LinkMessage) (replies : List LinkMessage) (event : EnrolEvent) (h : _) → hears links k m replies event ≡ Some h → IsHeard links h.at h.link
 heard links k m replies event h is = place_heard links m replies event (place_of k links) h is
 
--- Messages that wait
-
--- what is new among messages goes to neighbours
-abbrev pub AddsNear : List Waiting → List Waiting → Type 0
-AddsNear old new = (w : Waiting) → Contains new w → Contains old w ⊎ IsToNeighbour w.message
-
-pub adds_near : (agenda more : List Waiting) → AreToNeighbours more → AddsNear agenda (agenda ++ more)
-adds_near agenda more new w has = ⊎_elim (λ front. inl front) (λ back. inr (new w back)) (Contains-append_cases agenda more w has)
-
-pub both_near : (agenda more : List Waiting) → AreToNeighbours agenda → AreToNeighbours more → AreToNeighbours (agenda ++ more)
-both_near agenda more old new w has = ⊎_elim (λ front. old w front) (λ back. new w back) (Contains-append_cases agenda more w has)
-
-pub one_near : (link : ℕ) (m : LinkMessage) → AreToNeighbours (near link m ∷ [])
-one_near link m w has = ⊎_elim (λ same. subst (λ (x : Waiting). IsToNeighbour x.message) same tt) (λ none. absurd (in_none w none)) (cases (near link m) [] w has)
-
-items_near : (link : ℕ) (items : List Item) → AreToNeighbours (map (item_on link) items)
-items_near link items w has = (let r = contains_unmap (item_on link) items w has in subst (λ (x : Waiting). IsToNeighbour x.message) r.2 tt)
-
-pub start_near : (link invoke : ℕ) (items : List Item) (stop : ℕ) → AreToNeighbours (Rows.start_batch link invoke items stop)
-start_near link invoke items stop =
-    both_near ((near link (messages.StartR invoke) ∷ []) ++ map (item_on link) items) (near link (messages.Stop stop) ∷ [])
-    (both_near (near link (messages.StartR invoke) ∷ []) (map (item_on link) items) (one_near link (messages.StartR invoke)) (items_near link items))
-    (one_near link (messages.Stop stop))
-
-pub stop_near : (link invoke : ℕ) (items : List Item) → AreToNeighbours (Rows.stop_batch link invoke items)
-stop_near link invoke items = both_near (near link (messages.StopR invoke) ∷ []) (map (item_on link) items) (one_near link (messages.StopR invoke)) (items_near link items)
-
 -- The rows
 
--- it holds where a link is as a message left it, messages to neighbours wait, and a member that was enrolled is so
+-- it holds where a link is as a message left it, whatever waits, and a member that was enrolled is so
 abbrev pub KeptHeard : (Agent → Type 0) → Agent → Type 0
-KeptHeard P a = (at : ℕ) (l : Link) (state : MemberState) (invoke : ℕ) (agenda : List Waiting) → IsHeard a.links at l → (a.state ≡ Enrolled → state ≡ Enrolled) → AddsNear a.agenda agenda
+KeptHeard P a = (at : ℕ) (l : Link) (state : MemberState) (invoke : ℕ) (agenda : List Waiting) → IsHeard a.links at l → (a.state ≡ Enrolled → state ≡ Enrolled)
     → P (record a { state = state; last_invoke = invoke; links = slice_set a.links at l; agenda = agenda })
 
 -- where START was handled by a member that allowed the joiner
@@ -119,7 +89,7 @@ module _ (P : Agent → Type 0) where
   connected_does : (a : Agent) → P a → KeptHeard P a → (k : ℕ) (m : LinkMessage) (replies : List LinkMessage) (event : EnrolEvent) (h : _) → hears a.links k m replies event ≡ Some h → (d : EnrolDo) (reply : LinkMessage) → P (Rows.connected_as d a h reply)
   connected_does a same relinks k m replies event h is does.Nothing reply = same
   connected_does a same relinks k m replies event h is (does.ConnectR denied) reply =
-      relinks h.at h.link a.state a.last_invoke (a.agenda ++ near h.link.number reply ∷ []) (heard a.links k m replies event h is) (λ in_it. in_it) (adds_near a.agenda (near h.link.number reply ∷ []) (one_near h.link.number reply))
+      relinks h.at h.link a.state a.last_invoke (a.agenda ++ near h.link.number reply ∷ []) (heard a.links k m replies event h is) (λ in_it. in_it)
   connected_does a same relinks k m replies event h is does.Start reply = same
   connected_does a same relinks k m replies event h is does.StartR reply = same
   connected_does a same relinks k m replies event h is does.StopR reply = same
@@ -132,7 +102,7 @@ module _ (P : Agent → Type 0) where
   allowed_does a same relinks k m replies event h is does.Nothing start = same
   allowed_does a same relinks k m replies event h is (does.ConnectR denied) start = same
   allowed_does a same relinks k m replies event h is does.Start start = unless_put (spent 1 a.last_invoke) _ (λ left.
-      relinks h.at h.link a.state (next_of a.last_invoke) (a.agenda ++ near h.link.number start ∷ []) (heard a.links k m replies event h is) (λ in_it. in_it) (adds_near a.agenda (near h.link.number start ∷ []) (one_near h.link.number start)))
+      relinks h.at h.link a.state (next_of a.last_invoke) (a.agenda ++ near h.link.number start ∷ []) (heard a.links k m replies event h is) (λ in_it. in_it))
   allowed_does a same relinks k m replies event h is does.StartR start = same
   allowed_does a same relinks k m replies event h is does.StopR start = same
 
@@ -143,11 +113,11 @@ module _ (P : Agent → Type 0) where
   denied_row : (a : Agent) → P a → KeptHeard P a → (k : ℕ) (m : LinkMessage) (replies : List LinkMessage) (event : EnrolEvent) (o : _) → hears a.links k m replies event ≡ o → (rule : ℕ) → P (Rows.denied_by a k rule o)
   denied_row a same relinks k m replies event None is rule = same
   denied_row a same relinks k m replies event (Some h) is rule =
-      relinks h.at h.link (Rows.denied_state k rule a.state) a.last_invoke a.agenda (heard a.links k m replies event h is) (λ in_it. ap (λ (s : MemberState). Rows.denied_state k rule s) in_it) (λ w has. inl has)
+      relinks h.at h.link (Rows.denied_state k rule a.state) a.last_invoke a.agenda (heard a.links k m replies event h is) (λ in_it. ap (λ (s : MemberState). Rows.denied_state k rule s) in_it)
 
   noted_row : (a : Agent) → P a → KeptHeard P a → (k : ℕ) (m : LinkMessage) (replies : List LinkMessage) (event : EnrolEvent) (o : _) → hears a.links k m replies event ≡ o → P (Rows.noted_by a o)
   noted_row a same relinks k m replies event None is = same
-  noted_row a same relinks k m replies event (Some h) is = relinks h.at h.link a.state a.last_invoke a.agenda (heard a.links k m replies event h is) (λ in_it. in_it) (λ w has. inl has)
+  noted_row a same relinks k m replies event (Some h) is = relinks h.at h.link a.state a.last_invoke a.agenda (heard a.links k m replies event h is) (λ in_it. in_it)
 
   started_does : (a : Agent) (now : ℕ) → P a → (k invoke address : ℕ) → KeptStart P a now (messages.Start invoke address) → (m : LinkMessage) (replies : List LinkMessage) (event : EnrolEvent) (h : _) → hears a.links k m replies event ≡ Some h → (d : EnrolDo) → PutOr (Rows.started_as d a now h invoke address)
   started_does a now same k invoke address starts m replies event h is does.Nothing = same

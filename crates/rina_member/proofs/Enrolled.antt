@@ -22,4 +22,4 @@ pub handles_enrolled : (now link : ℕ) (message : LinkMessage) (m m' : Manageme
 handles_enrolled now link message m m' h is =
     let g : Agent = m.agent in
     subst (λ (r : Result Agent AgentError). PutOr IsIn r) h.handles
-    (handled_rows IsIn g now link message is (λ at l state invoke agenda heard stays adds. stays is) (λ at l invoke address heard same may. is) (λ at l invoke heard may. refl) (λ item same. took_in (is_newer item.version (kept_at g.items item.key)) link g item is))
+    (handled_rows IsIn g now link message is (λ at l state invoke agenda heard stays. stays is) (λ at l invoke address heard same may. is) (λ at l invoke heard may. refl) (λ item same. took_in (is_newer item.version (kept_at g.items item.key)) link g item is))

@@ -12,14 +12,9 @@ use Rattle.rina_enrol.specs.declared.event.EnrolEvent.{EnrolEvent}
 use Rattle.rina_enrol.specs.declared.event.EnrolEvent.TheVariants as events
 use Rattle.rina_enrol.specs.declared.message.LinkMessage.{LinkMessage}
 use Rattle.rina_enrol.specs.declared.message.LinkMessage.TheVariants as messages
-use Rattle.rina_enrol.specs.Messages.{message_of}
-use Rattle.rina_enrol.proofs.Guesses.{message_ranged, one_message}
-use Rattle.rina_cdap.specs.declared.message.Message.{Message}
-use Rattle.rina_cdap.proofs.Spelled.{one_message as one_cdap}
+use Rattle.rina_enrol.proofs.Guesses.{one_message}
 use Rattle.rina_alloc.specs.declared.message.FlowMessage.{FlowMessage}
-use Rattle.rina_alloc.specs.Messages.{IsInRange as IsFlowInRange, IsSpelled as IsFlowText, message_of as flow_message_of}
-use Rattle.rina_alloc.proofs.Guesses.{message_ranged as flow_ranged}
-use Rattle.std.proofs.lemmas.Option.{none-some}
+use Rattle.rina_alloc.specs.Messages.{IsInRange as IsFlowInRange, IsSpelled as IsFlowText}
 use Rattle.rina_agent.specs.declared.agent.Agent.{Agent}
 use Rattle.rina_agent.specs.declared.enrolment.Enrolment.{Enrolment}
 use Rattle.rina_agent.specs.declared.link.Link.{Link}
@@ -41,6 +36,7 @@ use Rattle.rina_member.specs.Handling.{BringsItemName, IsItemName, IsSameMember,
 use Rattle.rina_member.specs.Managements.{Handles, HandlesSdu, IsNews, IsSdu, all_live, is_news, keys_brought, keys_made, with_live}
 use Rattle.rina_member.proofs.Lists.{first_at}
 use Rattle.rina_member.proofs.Others.{live_others}
+use Rattle.rina_member.proofs.TextsApart.{texts_apart}
 
 same_agent : (x y : Agent) → ◌≡◌ {A = Result Agent AgentError} (Ok x) (Ok y) → x ≡ y
 same_agent x y h = cc
@@ -256,23 +252,10 @@ old_news now link sdu message m (Some m') is old h =
     let same : h.0 ≡ message = only_message h.0 message sdu h.1.is_sdu is in
     absurd (both_ways (is_news m.agent.items message) old (ap (λ (x : LinkMessage). is_news m.agent.items x) (sym same) ∙ h.1.news))
 
-destination_none : (x : LinkMessage) → (message_of x).destination_address ≡ None
-unfolding message_of
-destination_none x = refl
-
-destination_some : (x : FlowMessage) → (flow_message_of x).destination_address ≡ Some x.to
-unfolding flow_message_of
-destination_some x = refl
-
 -- nor does a message about a flow
-no_flow : (n : LinkMessage) (message : FlowMessage) (sdu : List ℕ) → IsSdu n sdu → IsFlowInRange message → IsFlowText message sdu → ⊥
-no_flow n message sdu is range text =
-    let same : message_of n ≡ flow_message_of message = one_cdap (message_of n) (flow_message_of message) sdu (message_ranged n is.in_range) (flow_ranged message range) is.spelled text in
-    none-some message.to (sym (destination_none n) ∙ ap (λ (x : Message). x.destination_address) same ∙ destination_some message)
-
 pub flow_news : (now link : ℕ) (sdu : List ℕ) (message : FlowMessage) (m : Management) (after : Option Management) → IsFlowInRange message → IsFlowText message sdu → HandlesSdu now link sdu m (Ok after) → after ≡ None
 flow_news now link sdu message m None range text h = refl
-flow_news now link sdu message m (Some m') range text h = absurd (no_flow h.0 message sdu h.1.is_sdu range text)
+flow_news now link sdu message m (Some m') range text h = absurd (texts_apart sdu h.0 message h.1.is_sdu text)
 
 -- one that is news is handled
 pub new_news : (now link : ℕ) (sdu : List ℕ) (message : LinkMessage) (m : Management) (after : Option Management) → IsNews message sdu m → HandlesSdu now link sdu m (Ok after)

@@ -32,7 +32,7 @@ use Rattle.rina_member.proofs.Leading.{leads_over}
 use Rattle.rina_member.proofs.Lists.{made_of}
 use Rattle.rina_member.proofs.Removing.{hop_number}
 use Rattle.rina_member.proofs.Starting.{all_enrolled, at_start, hops_again, start_claims}
-use Rattle.rina_member.proofs.TellsNear.{added_ranged}
+use Rattle.rina_member.proofs.TellsMore.{added_ranged}
 
 -- from the start, where each edge of the member has a link
 pub starts_knowing : (is_static : Bool) (members : List Member) (plans : List LinkPlan) (rules : Rules) (m : Member) (links : List Link) (now : ℕ)

@@ -83,7 +83,7 @@ raised_knows now m links g at l old batch h apart numbers stands same range may 
 
 module _ (now : ℕ) (m : Member) (links : List Link) (g : Agent) (h : Knows now m links g) where
   heard_knows : KeptHeard (Knows now m links) g
-  heard_knows at l state invoke agenda heard stays adds = record {
+  heard_knows at l state invoke agenda heard stays = record {
     address = h.address;
     fits = h.fits;
     apart = h.apart;

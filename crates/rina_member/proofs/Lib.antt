@@ -2,6 +2,7 @@ mod ByRows
 mod Changing
 pub mod Counting
 pub mod Enrolled
+mod EntryForms
 pub mod Entering
 pub mod Handled
 mod Holding
@@ -23,6 +24,7 @@ pub mod Starting
 mod States
 pub mod Tells
 pub mod TellsEnrolled
-pub mod TellsNear
+pub mod TellsMore
 pub mod TellsStarting
 pub mod Telling
+pub mod TextsApart

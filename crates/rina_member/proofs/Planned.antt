@@ -476,7 +476,7 @@ module _ (front : List Managed) (free : AreFree front) where
 
   handles_begins : (now k : ℕ) (message : LinkMessage) (a : Agent) → Begins a → PutOr Begins (Rows.handled a now k message)
   handles_begins now k message a b = handled_rows Begins a now k message b
-      (λ at l state invoke agenda heard stays adds. set_begin front a.links at l l free b heard refl)
+      (λ at l state invoke agenda heard stays. set_begin front a.links at l l free b heard refl)
       (λ at l invoke address heard same may. set_begin front a.links at l (Rows.up_link (Some address) l) free b heard refl)
       (stops a now b)
       (λ item same. took_begins (is_newer item.version (kept_at a.items item.key)) k a item b)

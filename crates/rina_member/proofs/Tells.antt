@@ -217,7 +217,7 @@ pub key_shown : (app : List ℕ) → key_of app ≡ codes "/dir/" ++ map (λ b. 
 unfolding key_of key_byte
 key_shown app = refl
 
-key_short : (app : List ℕ) → app_at app ≡ Ok app → length (key_of app) ≤ 134
+pub key_short : (app : List ℕ) → app_at app ≡ Ok app → length (key_of app) ≤ 134
 unfolding key_of
 key_short app name = omega (arith, length-append (codes "/dir/") (map key_byte app), length-map app key_byte, app_short app app name)
 

@@ -46,20 +46,6 @@ pub record TellsShort (g : Agent) : Type 0 where
   pub ranges : (l : Link) → Contains g.links l → IsLinkInRange l
   pub waiting : AreShort g.agenda
 
--- a message is to the neighbour at the other end of a link
-abbrev pub IsToNeighbour : ManagementMessage → Type 0
-IsToNeighbour (ToNeighbour message) = Unit {0}
-IsToNeighbour (ToMember message) = ⊥
-
--- so is each that waits
-abbrev pub AreToNeighbours : List Waiting → Type 0
-AreToNeighbours agenda = (waiting : Waiting) → Contains agenda waiting → IsToNeighbour waiting.message
-
--- the messages of a member are short, and go to its neighbours alone, now and from now on
-pub record TellsNeighbours (g : Agent) : Type 0 where
-  pub short : TellsShort g
-  pub near : AreToNeighbours g.agenda
-
 -- of a static DIF: the members have names of applications, and each has at most 16 links
 abbrev pub AreNamed : List Member → Type 0
 AreNamed members = (m : Member) → Contains members m → app_at m.name ≡ Ok m.name

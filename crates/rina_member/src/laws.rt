@@ -1,5 +1,5 @@
 //! The laws of a member that handles the SDUs of its links. These functions do nothing: their contracts are laws.
-ghost use Rattle.std.specs.Prelude.{◌≡◌, ◌<◌, ◌≤◌, ◌^◌, ◌++◌, ◌∷◌, [], ℕ, Bool, false, true, length, slice_get, slice_set, Contains, List, Err, IfSome, None, Ok, Option, Some};
+ghost use Rattle.std.specs.Prelude.{◌≡◌, ◌<◌, ◌≤◌, ◌^◌, ◌++◌, ◌∷◌, [], ℕ, ◌+◌, Bool, false, true, length, slice_get, slice_set, Contains, List, Err, IfSome, None, Ok, Option, Some};
 ghost use Rattle.std.specs.Fmt.{decimal};
 ghost use Rattle.rina_access.specs.declared.rules.Rules.{Rules};
 ghost use Rattle.rina_base.specs.Names.{app_at};
@@ -11,13 +11,13 @@ ghost use Rattle.rina_enrol.specs.Items.{CarriesReplicated};
 ghost use Rattle.rina_enrol.specs.Messages.{IsInRange};
 ghost use Rattle.rina_route.specs.declared.link.Link.{Link as Hop};
 ghost use Rattle.rina_agent.specs.declared.agent.Agent.{Agent};
-ghost use Rattle.rina_agent.specs.declared.message.ManagementMessage.TheVariants.{ToNeighbour};
+ghost use Rattle.rina_agent.specs.declared.message.ManagementMessage.TheVariants.{ToMember, ToNeighbour};
 ghost use Rattle.rina_agent.specs.declared.state.AgentError.TheVariants.{CountSpent};
 ghost use Rattle.rina_agent.specs.declared.state.MemberState.TheVariants.{Enrolled};
 ghost use Rattle.rina_agent.specs.Counts.{spent};
 ghost use Rattle.rina_agent.specs.Items.{made};
 ghost use Rattle.rina_agent.specs.Rows.{joining, lost};
-ghost use Rattle.rina_dir.specs.Directory.{key_of};
+ghost use Rattle.rina_dir.specs.Directory.{AreEntries, key_of};
 ghost use Rattle.rina_data.specs.declared.link.Link.{Link};
 ghost use Rattle.rina_data.specs.declared.link.Route.{Route};
 ghost use Rattle.rina_data.specs.declared.settings.Member.{Member};
@@ -28,7 +28,7 @@ ghost use Rattle.rina_member.specs.Handling.{BringsItemName, IsSameMember, IsUne
 ghost use Rattle.rina_member.specs.Knowing.{AreHopsOfPlan, AreLive, AreNumbered, AreRoutesOf, HasLiveLink, IsFreeNumber, IsLaidOut, IsPlanned, KeepsOtherClaims, Knows, SameEdges, all_claims, hops_of, made_links};
 ghost use Rattle.rina_member.specs.Managements.{Handles, HandlesSdu, IsNews, IsSdu, LosesLink, MakesEntry, claimed, entered, entry_of, is_news, keys_brought, takes_item, with_sent};
 ghost use Rattle.rina_member.specs.Routing.{AreRoutesOver, edges_from, edges_of, live_links, live_of};
-ghost use Rattle.rina_member.specs.Short.{AreNamed, HaveFewLinks, IsShort, TellsNeighbours};
+ghost use Rattle.rina_member.specs.Short.{AreNamed, HaveFewLinks, IsShort, TellsShort};
 ghost use Rattle.rina_member.specs.Start.{HasLinksIfStatic, items_held, started};
 
 /// An SDU is handled as the one message that it is. It changes nothing where that is no news, or about a flow.
@@ -36,6 +36,8 @@ pub fn an_sdu_is_one_message()
     ensures news { (now link : ℕ) (sdu : List ℕ) (message : LinkMessage) (m : Management) (after : Option Management) → IsNews message sdu m → HandlesSdu now link sdu m (Ok after) → (m' : Management) × (after ≡ Some m') × Handles now link message m m' }
     ensures old { (now link : ℕ) (sdu : List ℕ) (message : LinkMessage) (m : Management) (after : Option Management) → IsSdu message sdu → is_news m.agent.items message ≡ false → HandlesSdu now link sdu m (Ok after) → after ≡ None }
     ensures flows { (now link : ℕ) (sdu : List ℕ) (message : FlowMessage) (m : Management) (after : Option Management) → IsFlowInRange message → IsFlowText message sdu → HandlesSdu now link sdu m (Ok after) → after ≡ None }
+    // No bytes are those of a message of a neighbour and of one about a flow.
+    ensures apart { (sdu : List ℕ) (message : LinkMessage) (flow : FlowMessage) → IsSdu message sdu → IsFlowText flow sdu → ⊥ }
 {}
 
 /// An item or a flood that is news is taken, and needs no version count.
@@ -58,18 +60,25 @@ pub fn a_message_changes_the_objects_of_its_items()
     ensures outside { (now link : ℕ) (message : LinkMessage) (m m' : Management) → BringsItemName message → Handles now link message m m' → KeepsOutsideItems m.objects m'.objects }
 {}
 
-/// A member of a DIF tells short messages to its neighbours alone from the start, and goes on to do so when it takes a directory entry, makes
-/// one with its own address or deletes one, gets a link or asks for an enrolment on a new one, where it has fewer than 16, loses a
-/// link, sends a message, and handles a short one.
+/// A member of a DIF tells short messages alone from the start, and goes on to do so when it takes a directory entry, makes one with its
+/// own address or deletes one, gets a link or asks for an enrolment on a new one, where it has fewer than 16, loses a link, sends a
+/// message, handles a short one, lets a short one for another member wait, and draws an invoke id.
 pub fn a_member_tells_short_messages()
-    ensures starts { (is_static : Bool) (members : List Member) (plans : List LinkPlan) (rules : Rules) (m : Member) (links : List Link) → IsLaidOut members plans → AreNamed members → HaveFewLinks members plans → Contains members m → length links ≤ 16 → TellsNeighbours (started is_static members plans rules m links) }
-    ensures enters { (app : List ℕ) (address : ℕ) (m : Management) → app_at app ≡ Ok app → address < 2 ^ 32 → TellsNeighbours m.agent → TellsNeighbours (entered app address m).agent }
-    ensures makes { (now : ℕ) (app : List ℕ) (value : Option (List ℕ)) (m m' : Management) → app_at app ≡ Ok app → IfSome value (λ text. text ≡ decimal m.agent.address) → MakesEntry now app value m m' → TellsNeighbours m.agent → TellsNeighbours m'.agent }
-    ensures joins { (number : ℕ) (member node : List ℕ) (g : Agent) → app_at member ≡ Ok member → length g.links < 16 → TellsNeighbours g → TellsNeighbours (joining g number member node) }
-    ensures claims { (number : ℕ) (g : Agent) → length g.links < 16 → TellsNeighbours g → TellsNeighbours (claimed g number) }
-    ensures loses { (now link : ℕ) (m m' : Management) → LosesLink now link m m' → TellsNeighbours m.agent → TellsNeighbours m'.agent }
-    ensures sends { (link : ℕ) (m : Management) → TellsNeighbours m.agent → TellsNeighbours (with_sent m link).agent }
-    ensures handles { (now link : ℕ) (message : LinkMessage) (m m' : Management) → IsInRange message → IsShort (ToNeighbour message) → Handles now link message m m' → TellsNeighbours m.agent → TellsNeighbours m'.agent }
+    ensures starts { (is_static : Bool) (members : List Member) (plans : List LinkPlan) (rules : Rules) (m : Member) (links : List Link) → IsLaidOut members plans → AreNamed members → HaveFewLinks members plans → Contains members m → length links ≤ 16 → TellsShort (started is_static members plans rules m links) }
+    ensures enters { (app : List ℕ) (address : ℕ) (m : Management) → app_at app ≡ Ok app → address < 2 ^ 32 → TellsShort m.agent → TellsShort (entered app address m).agent }
+    ensures makes { (now : ℕ) (app : List ℕ) (value : Option (List ℕ)) (m m' : Management) → app_at app ≡ Ok app → IfSome value (λ text. text ≡ decimal m.agent.address) → MakesEntry now app value m m' → TellsShort m.agent → TellsShort m'.agent }
+    ensures joins { (number : ℕ) (member node : List ℕ) (g : Agent) → app_at member ≡ Ok member → length g.links < 16 → TellsShort g → TellsShort (joining g number member node) }
+    ensures claims { (number : ℕ) (g : Agent) → length g.links < 16 → TellsShort g → TellsShort (claimed g number) }
+    ensures loses { (now link : ℕ) (m m' : Management) → LosesLink now link m m' → TellsShort m.agent → TellsShort m'.agent }
+    ensures sends { (link : ℕ) (m : Management) → TellsShort m.agent → TellsShort (with_sent m link).agent }
+    ensures handles { (now link : ℕ) (message : LinkMessage) (m m' : Management) → IsInRange message → IsShort (ToNeighbour message) → Handles now link message m m' → TellsShort m.agent → TellsShort m'.agent }
+    ensures posts { (number : ℕ) (message : FlowMessage) (g : Agent) → IsShort (ToMember message) → TellsShort g → TellsShort (record g { agenda = g.agenda ++ record { link = number; message = ToMember message } ∷ [] }) }
+    ensures draws { (g : Agent) → TellsShort g → TellsShort (record g { last_invoke = g.last_invoke + 1 }) }
+{}
+
+/// The items of a member that tells short messages alone have the form of the directory, so that applications can be looked up in them.
+pub fn its_items_are_entries()
+    ensures { (g : Agent) → TellsShort g → AreEntries g.items }
 {}
 
 /// A member that is enrolled stays so: when it handles a message, asks for a further enrolment, and loses a link.

@@ -24,7 +24,8 @@ pub use laws::{
     a_link_without_an_enrolment_brings_items_alone, a_member_knows_its_links,
     a_member_of_a_static_dif_keeps_the_plan, a_member_stays_enrolled,
     a_member_tells_short_messages, a_message_changes_the_objects_of_its_items,
-    an_item_that_is_news_is_taken, an_sdu_is_one_message, the_start_claims_the_plan,
+    an_item_that_is_news_is_taken, an_sdu_is_one_message, its_items_are_entries,
+    the_start_claims_the_plan,
 };
 pub use links::live_links;
 pub use loss::without_link;

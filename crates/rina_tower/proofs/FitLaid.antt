@@ -14,6 +14,7 @@ use Rattle.rina_data.specs.Configs.{Member, config_of, member_of as data_member}
 use Rattle.rina_dif.specs.Laying.{IsLaid}
 use Rattle.rina_dif.specs.Planned.{ipc_name, member_of, members_from, processes_before, settings_by}
 use Rattle.rina_tower.specs.Bystanders.{LeavesEnds, LeavesNow}
+use Rattle.rina_tower.proofs.Alone.{others_new}
 use Rattle.rina_dif_law.proofs.Own.{map_at}
 
 -- What was laid leaves alone whoever is no member
@@ -23,23 +24,22 @@ its_end : (s : Seen) → AreKept s → (n : ℕ) (f : Fac) → slice_get s.facs 
 its_end s kept n f at i e is = end_of_stands s e.port f i e (stands_there s n f i e at (kept.ports n f at) is)
 
 laid_ends : (members : List Member) (who : List ℕ → Type 0) (s s' : Seen) → AreKept s → AreKept s' → IsLaid members s s' → ((name : List ℕ) → who name → IsMine members name → ⊥) → (n : ℕ) (f f' : Fac) → slice_get s.facs n ≡ Some f → slice_get s'.facs n ≡ Some f' → LeavesEnds who f.ends f'.ends
-laid_ends members who s s' kept kept' laid others n f f' at at' = record {
-  stays = λ i e e' old new mine.
-      let l = laid.later.facs n f at in
-      let f_is : l.0 ≡ f' = same_Some l.0 f' (sym l.1 ∙ at') in
-      let now = l.2.ends i e old in
-      let e_is : now.0 ≡ e' = same_Some now.0 e' (sym (subst (λ (g : Fac). slice_get g.ends i ≡ Some now.0) f_is now.1) ∙ new) in
-      let port : e'.port ≡ e.port = subst (λ (x : End). x.port ≡ e.port) e_is now.2.port in
-      let here : end_of s' e'.port ≡ Some e' = its_end s' kept' n f' at' i e' new in
-      let there : end_of s' e.port ≡ Some e = laid.stays e.port e (its_end s kept n f at i e old) in
-      let same : e' ≡ e = same_Some e' e (sym here ∙ (ap (end_of s') port ∙ there)) in
-      (ap (λ (x : End). x.sent) same, ap (λ (x : End). x.taken) same);
-  fresh = λ i e' new past.
-      let here : end_of s' e'.port ≡ Some e' = its_end s' kept' n f' at' i e' new in
-      let none : end_of s e'.port ≡ None = was_none i e' new past (end_of s e'.port) refl in
-      let mine = laid.fresh e'.port e' here none in
-      (λ w. others e'.app w mine.app, λ w. others e'.peer w mine.peer);
-}
+laid_ends members who s s' kept kept' laid others n f f' at at' = others_new who f.ends f'.ends
+    (λ i e e' old new mine.
+    let l = laid.later.facs n f at in
+    let f_is : l.0 ≡ f' = same_Some l.0 f' (sym l.1 ∙ at') in
+    let now = l.2.ends i e old in
+    let e_is : now.0 ≡ e' = same_Some now.0 e' (sym (subst (λ (g : Fac). slice_get g.ends i ≡ Some now.0) f_is now.1) ∙ new) in
+    let port : e'.port ≡ e.port = subst (λ (x : End). x.port ≡ e.port) e_is now.2.port in
+    let here : end_of s' e'.port ≡ Some e' = its_end s' kept' n f' at' i e' new in
+    let there : end_of s' e.port ≡ Some e = laid.stays e.port e (its_end s kept n f at i e old) in
+    let same : e' ≡ e = same_Some e' e (sym here ∙ (ap (end_of s') port ∙ there)) in
+    (ap (λ (x : End). x.sent) same, ap (λ (x : End). x.taken) same))
+    (λ i e' new past.
+    let here : end_of s' e'.port ≡ Some e' = its_end s' kept' n f' at' i e' new in
+    let none : end_of s e'.port ≡ None = was_none i e' new past (end_of s e'.port) refl in
+    let mine = laid.fresh e'.port e' here none in
+    (λ w. others e'.app w mine.app, λ w. others e'.peer w mine.peer))
   where
     was_none : (i : ℕ) (e' : End) → slice_get f'.ends i ≡ Some e' → length f.ends ≤ i → (o : Option End) → end_of s e'.port ≡ o → o ≡ None
     was_none i e' new past None is = refl

@@ -219,7 +219,7 @@ laid_over plan k at d difs t is other within valid = record {
 pub may_lay : (plan : Plan) (k at : ℕ) (d : DifPlan) (difs : List Dif) (t : Tower) → slice_get plan.difs at ≡ Some d → d.rank ≡ k + 1 → at < length plan.difs → IsPlan plan → IsHalfMade plan k at difs (seen_of t) → CanLay plan at (seen_of t)
 may_lay plan k at d difs t is own within p half = can_lay plan k at half.0 difs (seen_of t) (are_named plan p) half.1 within (rank_yes plan (k + 1) at d is own) half.2
 
-pub laid_next : (plan : Plan) (k at : ℕ) (d : DifPlan) (difs difs' : List Dif) (made : Dif) (t u : Tower) → slice_get plan.difs at ≡ Some d → d.rank ≡ k + 1 → at < length plan.difs → IsPlan plan → IsTower t → IsTower u → SameBelow t u → Lays plan at (seen_of t) (seen_of u) → Stands made (seen_of u) → IsNew plan at made (seen_of t) (seen_of u) → BindsInTurn BindsWhole t (links_of plan at) u → made.laid ≡ record { is_static = d.is_static; links = d.links } → difs' ≡ difs ++ made ∷ [] → LaysNext plan k at difs t difs' u
+pub laid_next : (plan : Plan) (k at : ℕ) (d : DifPlan) (difs difs' : List Dif) (made : Dif) (t u : Tower) → slice_get plan.difs at ≡ Some d → d.rank ≡ k + 1 → at < length plan.difs → IsPlan plan → IsTower t → IsTower u → SameBelow t u → Lays plan at (seen_of t) (seen_of u) → Stands made (seen_of u) → IsNew plan at made (seen_of t) (seen_of u) → BindsInTurn BindsWhole t (links_of plan at) u → made.laid ≡ record { is_static = d.is_static; links = d.links; wait = d.wait } → difs' ≡ difs ++ made ∷ [] → LaysNext plan k at difs t difs' u
 laid_next plan k at d difs difs' made t u is own within p valid valid' same lays stands new turn laid more = record {
   valid = valid';
   below = same;

@@ -1,12 +1,12 @@
 -- A round of a tower that rests does nothing.
-use Rattle.std.proofs.Common.{◌≡◌, ◌∙◌, ℕ, ◌+◌, ◌<◌, true, false, List, [], ◌∷◌, slice_get, Option, Some, None, Result, Ok, Err, refl, sym, ap, arith, inl, inr}
+use Rattle.std.proofs.Common.{◌≡◌, ◌∙◌, ℕ, ◌+◌, ◌<◌, true, false, List, [], ◌∷◌, slice_get, Option, Some, None, Result, Ok, Err, refl, sym, arith, inl, inr}
 use Rattle.std.proofs.lemmas.Bool.{cases_eq}
 use Rattle.rina_base.specs.declared.number.Num.{Num}
 use Rattle.rina_base.specs.declared.number.Port.{Port}
 use Rattle.rina_iface.specs.declared.error.FreeError.{FreeError}
 use Rattle.rina_iface.specs.declared.error.SendError.{SendError}
-use Rattle.rina_iface.specs.Claim.{NoneWaits as NoneWaitsFor}
-use Rattle.rina_iface.specs.Seen.{Fac, Seen, oldest_in}
+use Rattle.rina_iface.specs.Claim.{AreClaimed}
+use Rattle.rina_iface.specs.Seen.{Seen}
 use Rattle.rina_iface.specs.Free.{FreesAsSeen}
 use Rattle.rina_iface.specs.Send.{SendsAsSeen}
 use Rattle.rina_iface.proofs.Changed.{slice_set-same}
@@ -28,8 +28,11 @@ use Rattle.rina_dif.specs.Elsewhere.{ChangesOnly, home_of}
 use Rattle.rina_dif.specs.Holding.{Stands}
 use Rattle.rina_dif.specs.Lower.{ClocksBelow}
 use Rattle.rina_dif.specs.Resting.{RestsUntil as DifRests}
+use Rattle.rina_dif.specs.Shown.{seen_of as seen_of_dif}
+use Rattle.rina_dif.proofs.AskedInTurn.{all_claimed}
 use Rattle.rina_dif.proofs.Beside.{no_step}
 use Rattle.rina_dif.proofs.Elsewhere.{flows_none, none_process}
+use Rattle.rina_dif.proofs.Waiting.{none_begin}
 use Rattle.rina_dif.proofs.Rested.{DoesNone, SendsNone, TakesNone, clock_rests, in_rests, none_fails, out_rests}
 use Rattle.rina_tower.specs.declared.places.LinkPlace.{LinkPlace}
 use Rattle.rina_tower.specs.declared.places.MemberPlace.{MemberPlace}
@@ -38,7 +41,7 @@ use Rattle.rina_tower.specs.Calls.{ClaimsAtTop, FreesWhole, SendsWhole}
 use Rattle.rina_tower.specs.Levels.{AtDif, same_refl}
 use Rattle.rina_tower.specs.Ranks.{height_of, now_of, seen_now, seen_of}
 use Rattle.rina_tower.specs.Refusals.{frees_both, refuses_send}
-use Rattle.rina_tower.specs.Resting.{AreResting, NoneWaits, RestsUntil}
+use Rattle.rina_tower.specs.Resting.{AreResting, RestsUntil}
 use Rattle.rina_tower.specs.Rounds.{AllClockSteps, AllInSteps, AllMove, AllOutSteps, Anything, ClockMove, InMove, InTurn, IsRound, IsUntil, Move, Moves, OutMove, has_left, has_taken, leaves_no_more, links_downward, links_upward, members_upward, none_due, takes_no_more, was_due}
 use Rattle.rina_tower.specs.Stands.{IsTower}
 use Rattle.rina_tower.specs.StepEffect.{StandsAfter}
@@ -52,7 +55,7 @@ stands_on d below st = (let none = no_step d below st in record {
   uses = record { mid = below; claims = inl refl; uses = inl refl };
   goes_on = none.goes_on;
   silent = none.silent;
-  waiting = refl;
+  waiting = none_begin (seen_of_dif d) (seen_of_dif d) refl;
   others = none.others;
   settings = refl;
   laid = refl;
@@ -62,14 +65,10 @@ leaves_all : (Ends : ℕ → Type 0) (o : Option ℕ) (d : Dif) → ChangesOnly 
 leaves_all Ends o d = (flows_none Ends d.flows d.flows refl, none_process o d.processes d.processes refl)
 
 -- no far end waits for its member
-none_comes : (d : Dif) (below : Seen) (node : ℕ) → NoneWaits below → NoneComesAt d below node
-none_comes d below node none i member may n lt = none_by (slice_get below.facs n) refl
-  where
-    none_by : (o : Option Fac) → slice_get below.facs n ≡ o → NoneWaitsFor o node member.name
-    none_by None is = tt
-    none_by (Some f) is = ap (λ (ws : List ℕ). oldest_in f.ends ws node member.name) (none n f is)
+none_comes : (d : Dif) (below : Seen) (node : ℕ) → AreClaimed below → NoneComesAt d below node
+none_comes d below node none i member may n lt = all_claimed below node member.name none n
 
-module _ (until : ℕ) (d : Dif) (below : Seen) (st : Stands d below) (before : d.clock < until) (rest : DifRests until d below) (claimed : NoneWaits below) (node link : ℕ) where
+module _ (until : ℕ) (d : Dif) (below : Seen) (st : Stands d below) (before : d.clock < until) (rest : DifRests until d below) (claimed : AreClaimed below) (node link : ℕ) where
   takes_one : (a : Result InStep StepError) × TakesNone a × TakesOne below node link a below d d
   takes_one = (let a = in_rests until d below node link rest in (a.0, a.1, record { does = a.2; after = stands_on d below st; rest = refl; leaves = leaves_all _ _ d }))
 
@@ -101,7 +100,7 @@ at_dif does n none difs d is done = inl (record { dif = d; dif' = d; is_dif = is
 no_dif : (does : Dif → Dif → Type 0) (n : ℕ) (none : Type 0) (difs : List Dif) → slice_get difs n ≡ None → none → AtDif n does none difs difs
 no_dif does n none difs is done = inr (is, done, refl)
 
-module _ (until : ℕ) (p : _) (difs : List Dif) (below : Tower) (v : IsTower (Rank' p difs below)) (before : now_of below < until) (rest : AreResting until difs (seen_of below)) (claimed : NoneWaits (seen_of below)) (dif node link : ℕ) where
+module _ (until : ℕ) (p : _) (difs : List Dif) (below : Tower) (v : IsTower (Rank' p difs below)) (before : now_of below < until) (rest : AreResting until difs (seen_of below)) (claimed : AreClaimed (seen_of below)) (dif node link : ℕ) where
   its_clock : (d : Dif) → slice_get difs dif ≡ Some d → d.clock < until
   its_clock d is =
       let clock = (v.0.standing.stand dif d is).1.standing.clock in

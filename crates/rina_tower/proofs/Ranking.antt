@@ -1,7 +1,7 @@
 -- What a call or a step of one DIF is to its rank.
 use Rattle.std.proofs.Common.{◌≡◌, ◌∙◌, ℕ, ◌<◌, List, slice_get, slice_set, Some, option_map, refl, sym, ap, subst, arith, inl, inr}
 use Rattle.std.proofs.lemmas.List.{map-set}
-use Rattle.std.proofs.lemmas.Option.{slice_get-map, slice_get_within}
+use Rattle.std.proofs.lemmas.Option.{slice_get-map}
 use Rattle.rina_iface.specs.Journal.{AreKept, HasPorts, IsKept, Promises}
 use Rattle.rina_iface.specs.Later.{IsLaterFac}
 use Rattle.rina_iface.specs.Seen.{Fac, Seen}
@@ -33,7 +33,7 @@ use Rattle.rina_tower.proofs.Alone.{fac_alone, lifted}
 
 pub holds_beside : (who : List ℕ → Type 0) (d : Dif) (lines : List Direction) (below below' : Seen) → AreKept below → AreKept below' → ((name : List ℕ) → IsMine (config_of d.settings).members name → who name) → LeavesNow who below below' → Holds d lines below → Holds d lines below'
 holds_beside who d lines below below' kept kept' mine alone h =
-    let up = lifted (config_of d.settings) who below below' kept kept' mine alone.leaves in
+    let up = lifted (config_of d.settings) who below below' kept kept' mine h.standing.inside alone.leaves in
     record {
       tied = h.tied;
       standing = stands_beside (seen_of_dif d) lines below below' kept' h.standing up alone.clock;
@@ -122,6 +122,7 @@ silent_alone difs now n d d' clock same at silent =
     let later : IsLaterFac now now (fac_of_dif d) (fac_of_dif d') = subst (λ (t : ℕ). IsLaterFac t now (fac_of_dif d) (fac_of_dif d')) clock (subst (λ (t : ℕ). IsLaterFac d.clock t (fac_of_dif d) (fac_of_dif d')) (same ∙ clock) silent.later) in
     let ends : LeavesEnds Anyone (fac_of_dif d).ends (fac_of_dif d').ends = record {
       stays = λ i e e' x y mine. silent.same i e e' x y;
-      fresh = λ i e' y past. absurd (let within = slice_get_within (fac_of_dif d').ends i e' y in let number = silent.number in omega (arith, within, past, number));
+      fresh = λ i e' y past mine. (let f = silent.fresh i e' y past in record { place = f.place; asker = f.asker; stands = f.stands; far = f.far; partner = f.partner; named = f.named });
+      unsent = λ i e' y past mine. (let f = silent.fresh i e' y past in (f.sent, f.taken));
     } in
     subst (λ (z : Seen). LeavesNow Anyone s z) (sym (shown_after difs n d' now)) (fac_alone Anyone s n (fac_of_dif d) (fac_of_dif d') here (later_fac s n (fac_of_dif d) (fac_of_dif d') here later) ends)

@@ -3,6 +3,7 @@ use Rattle.std.proofs.Common.{◌≡◌, ◌∙◌, ℕ, suc, ◌+◌, ◌-◌, 
 use Rattle.std.proofs.lemmas.Bool.{cases_lt}
 use Rattle.std.proofs.lemmas.List.{length-map}
 use Rattle.std.proofs.lemmas.Option.{same_Some, slice_get_within}
+use Rattle.rina_iface.specs.Claim.{AreClaimed}
 use Rattle.rina_iface.specs.Seen.{Fac, Seen}
 use Rattle.rina_iface.proofs.Later.{fac_refl}
 use Rattle.rina_dif_law.specs.Lifting.{ticked}
@@ -12,15 +13,15 @@ use Rattle.rina_dif.specs.Holding.{Holds}
 use Rattle.rina_dif.specs.Resting.{RestsUntil as DifRests}
 use Rattle.rina_dif.proofs.Moves.{holds_later}
 use Rattle.rina_dif.proofs.Rested.{rests_later}
-use Rattle.rina_wire.specs.Air.{Air, fac_of as fac_of_line}
-use Rattle.rina_wire.specs.Resting.{NoneWaits as NoneWaitOn, RestsUntil as WiresRest, at_tick as wires_at}
+use Rattle.rina_wire.specs.Air.{Air}
+use Rattle.rina_wire.specs.Resting.{RestsUntil as WiresRest, at_tick as wires_at}
 use Rattle.rina_wire.specs.Tick.{TicksOn}
 use Rattle.rina_wire.proofs.Rested.{rested_sound, rests_sooner as air_sooner, tick_rests}
 use Rattle.rina_tower.specs.declared.tower.Tower.{Tower, Rank', Wires}
 use Rattle.rina_tower.specs.Bystanders.{Anyone, Leaves, LeavesEnds}
 use Rattle.rina_tower.specs.ClockTick.{AreClocked, Ticks}
 use Rattle.rina_tower.specs.Ranks.{fac_of_dif, height_of, now_of, seen_now, seen_of, seen_of_difs}
-use Rattle.rina_tower.specs.Resting.{AreClaimed, AreResting, IsAtTick, NoneWaits, RestsUntil, WiresRestUntil, dif_at}
+use Rattle.rina_tower.specs.Resting.{AreDifsClaimed, AreResting, IsAtTick, RestsUntil, WiresRestUntil, dif_at}
 use Rattle.rina_tower.specs.Stands.{AreStanding, At, IsRank, IsTower}
 use Rattle.rina_tower.proofs.Alone.{ends_alone}
 use Rattle.rina_tower.proofs.Timing.{at_index, is_clocked, rank_ticked}
@@ -178,14 +179,14 @@ at_again n m (Wires a) (Rank' p difs below) v x y = absurd x
 at_again n m (Rank' p difs below) (Wires b) v x y = absurd x
 at_again n m (Rank' p difs below) (Rank' p' difs' below') (Wires c) x y = absurd y
 
+dif_sooner : (until until' : ℕ) (d : Dif) (below : Seen) → until' ≤ until → DifRests until d below → DifRests until' d below
+dif_sooner until until' d below le r = record { alive = r.alive; processes = r.processes; messages = r.messages; flows = λ now lt. r.flows now (omega (arith, le, lt)); links = λ now lt. r.links now (omega (arith, le, lt)); asks = λ now node lt. r.asks now node (omega (arith, le, lt)) }
+
 pub rests_sooner : (until until' : ℕ) (t : Tower) → until' ≤ until → RestsUntil until t → RestsUntil until' t
 rests_sooner until until' (Wires a) le rest = air_sooner until until' a le rest
-rests_sooner until until' (Rank' p difs below) le rest = (λ n d at. (let r = rest.0 n d at in record { alive = r.alive; processes = r.processes; messages = r.messages; flows = λ now lt. r.flows now (omega (arith, le, lt)); links = λ now lt. r.links now (omega (arith, le, lt)) }), rest.1, rests_sooner until until' below le rest.2)
+rests_sooner until until' (Rank' p difs below) le rest = (λ n d at. dif_sooner until until' d (seen_of below) le (rest.0 n d at), rest.1, rests_sooner until until' below le rest.2)
 
 -- The DIFs of a rank, one after the other
-
-dif_sooner : (until until' : ℕ) (d : Dif) (below : Seen) → until' ≤ until → DifRests until d below → DifRests until' d below
-dif_sooner until until' d below le r = record { alive = r.alive; processes = r.processes; messages = r.messages; flows = λ now lt. r.flows now (omega (arith, le, lt)); links = λ now lt. r.links now (omega (arith, le, lt)) }
 
 pub difs_sooner : (until until' : ℕ) (difs : List Dif) (below : Seen) → until' ≤ until → AreResting until difs below → AreResting until' difs below
 difs_sooner until until' difs below le rest = λ n d at. dif_sooner until until' d below le (rest n d at)
@@ -210,17 +211,12 @@ all_rest difs count until below le before after = λ n d at. (let within = slice
 
 -- A rank over a tower that rests
 
-pub rank_rests : (difs : List Dif) (below : Tower) (until quiet least : ℕ) → least ≤ until → least ≤ quiet → (now_of below < until → RestsUntil until below) → ((seen_of below).now < quiet → AreResting quiet difs (seen_of below)) → NoneWaits (seen_of below) → now_of below < least → AreResting least difs (seen_of below) × NoneWaits (seen_of below) × RestsUntil least below
+pub rank_rests : (difs : List Dif) (below : Tower) (until quiet least : ℕ) → least ≤ until → least ≤ quiet → (now_of below < until → RestsUntil until below) → ((seen_of below).now < quiet → AreResting quiet difs (seen_of below)) → AreClaimed (seen_of below) → now_of below < least → AreResting least difs (seen_of below) × AreClaimed (seen_of below) × RestsUntil least below
 rank_rests difs below until quiet least le le' rest own none after =
     let now = seen_now below in
     (difs_sooner quiet least difs (seen_of below) le' (own (omega (arith, le', after, now))), none, rests_sooner until least below le (rest (omega (arith, le, after))))
 
 -- Nothing waits to be claimed
 
--- the wires show none that waits
-pub wires_claimed : (a : Air) → NoneWaitOn a.wires → NoneWaits (seen_of (Wires a))
-wires_claimed a none n f is = (let l = map_at fac_of_line a.wires n f is in ap (λ (g : Fac). g.waiting) l.2 ∙ none n l.0 l.1)
-
--- nor do DIFs
-pub difs_claimed : (now : ℕ) (difs : List Dif) → AreClaimed difs → NoneWaits (seen_of_difs now difs)
+pub difs_claimed : (now : ℕ) (difs : List Dif) → AreDifsClaimed difs → AreClaimed (seen_of_difs now difs)
 difs_claimed now difs none n f is = (let d = map_at fac_of_dif difs n f is in ap (λ (g : Fac). g.waiting) d.2 ∙ none n d.0 d.1)

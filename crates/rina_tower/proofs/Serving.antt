@@ -30,17 +30,18 @@ use Rattle.rina_iface.specs.Seen.{Fac, Seen, unpassed}
 use Rattle.rina_iface.specs.Send.{Sends}
 use Rattle.rina_iface.specs.Unregister.{Unregisters}
 use Rattle.rina_dif.specs.declared.dif.Dif.{Dif}
+use Rattle.rina_dif.specs.Allocating.{allocate_refusal}
 use Rattle.rina_dif.specs.Facade.{StaysStanding, own_refusal}
 use Rattle.rina_dif.specs.Registering.{register_refusal, unregister_refusal}
 use Rattle.rina_dif.proofs.Bound.{may_bind as may_make}
 use Rattle.rina_tower.specs.declared.tower.Tower.{Tower, Rank', Wires}
 use Rattle.rina_tower.specs.Bystanders.{Anyone, IsIpc, LeavesNow}
-use Rattle.rina_tower.specs.Calls.{AreDifs, BindsFrom, MayBind, FreesFrom, PassesFrom, RegistersFrom, SendsFrom, Serves, UnregistersFrom, WaitsThere}
-use Rattle.rina_tower.specs.Refusals.{own_register, own_unregister}
+use Rattle.rina_tower.specs.Calls.{AllocatesFrom, AreDifs, BindsFrom, MayBind, FreesFrom, PassesFrom, RegistersFrom, SendsFrom, Serves, UnregistersFrom, WaitsThere}
+use Rattle.rina_tower.specs.Refusals.{own_allocate, own_register, own_unregister}
 use Rattle.rina_tower.specs.Ranks.{fac_of_dif, height_of, now_of, seen_now, seen_of, seen_of_difs}
 use Rattle.rina_tower.specs.Stands.{AreStanding, At, IsRank, IsTower, kept_of}
 use Rattle.rina_tower.specs.Levels.{AtDif, IsAtDif, SameBelow}
-use Rattle.rina_tower.specs.Unchanged.{ChangesClaims, ChangesNothing}
+use Rattle.rina_tower.specs.Unchanged.{ChangesClaims}
 use Rattle.rina_tower.proofs.Alone.{fewer_now, same_alone}
 use Rattle.rina_tower.proofs.Ranking.{is_rank, shown_after, shows, standing_after, standing_beside}
 
@@ -82,6 +83,12 @@ rank_registers fac node app result none difs difs' below rank v a = elim a [
 pub rank_unregisters : (fac node : ℕ) (app : List ℕ) (result : Result (Unit {0}) UnregisterError) (none : Type 0) (difs difs' : List Dif) (below : Tower) → IsRank difs below → IsTower below → AtDif fac (UnregistersFrom fac node app result) none difs difs' → IsRank difs' below
 rank_unregisters fac node app result none difs difs' below rank v a = elim a [
   | inl h ↦ rank_after difs difs' below fac h.dif h.dif' rank v h.is_dif h.done.serves.stands h.done.serves.settings h.new_is
+  | inr h ↦ subst (λ (ds : List Dif). IsRank ds below) (sym h.2) rank
+]
+
+pub rank_allocates : (ask : Ask) (result : Result Port AllocateError) (none : Type 0) (difs difs' : List Dif) (below : Tower) → IsRank difs below → IsTower below → AtDif ask.fac (AllocatesFrom ask result) none difs difs' → IsRank difs' below
+rank_allocates ask result none difs difs' below rank v a = elim a [
+  | inl h ↦ rank_after difs difs' below ask.fac h.dif h.dif' rank v h.is_dif h.done.serves.stands h.done.serves.settings h.new_is
   | inr h ↦ subst (λ (ds : List Dif). IsRank ds below) (sym h.2) rank
 ]
 
@@ -128,10 +135,13 @@ unregisters_seen fac node app result difs difs' below rank a = elim a [
   | inr h ↦ subst (λ (r : Result (Unit {0}) UnregisterError). Unregisters (own_unregister difs fac node) (seen_of_difs (now_of below) difs) fac node app r (seen_of_difs (now_of below) difs')) (sym h.1) (rw (none_there difs fac (now_of below) h.0) refl, ap (seen_of_difs (now_of below)) h.2)
 ]
 
-pub allocates_seen : (ask : Ask) (result : Result Port AllocateError) (difs difs' : List Dif) (below : Tower) → IsRank difs below → AtDif ask.fac (Serves (λ s s'. Allocates (Some allocate.Unbuilt) s ask result s') ChangesNothing ask.fac) (result ≡ Err allocate.NoMember) difs difs' → Allocates (Some allocate.Unbuilt) (seen_of_difs (now_of below) difs) ask result (seen_of_difs (now_of below) difs')
+pub allocates_seen : (ask : Ask) (result : Result Port AllocateError) (difs difs' : List Dif) (below : Tower) → IsRank difs below → AtDif ask.fac (AllocatesFrom ask result) (result ≡ Err allocate.NoMember) difs difs' → Allocates (own_allocate difs ask) (seen_of_difs (now_of below) difs) ask result (seen_of_difs (now_of below) difs')
 allocates_seen ask result difs difs' below rank a = elim a [
-  | inl h ↦ call_seen (λ s s'. Allocates (Some allocate.Unbuilt) s ask result s') ask.fac difs difs' below h.dif h.dif' rank h.is_dif h.done h.new_is
-  | inr h ↦ subst (λ (r : Result Port AllocateError). Allocates (Some allocate.Unbuilt) (seen_of_difs (now_of below) difs) ask r (seen_of_difs (now_of below) difs')) (sym h.1) (rw (none_there difs ask.fac (now_of below) h.0) refl, ap (seen_of_difs (now_of below)) h.2)
+  | inl h ↦
+      (let own = own_there (λ (d : Dif). allocate_refusal d ask) difs ask.fac h.dif h.is_dif in
+      subst (λ (o : Option AllocateError). Allocates o (seen_of_difs (now_of below) difs) ask result (seen_of_difs (now_of below) difs')) (sym own)
+      (call_seen (λ s s'. h.dif.settings.fac ≡ ask.fac → Allocates (allocate_refusal h.dif ask) s ask result s') ask.fac difs difs' below h.dif h.dif' rank h.is_dif h.done.serves h.new_is (rank.standing.number ask.fac h.dif h.is_dif)))
+  | inr h ↦ subst (λ (r : Result Port AllocateError). Allocates (own_allocate difs ask) (seen_of_difs (now_of below) difs) ask r (seen_of_difs (now_of below) difs')) (sym h.1) (rw (none_there difs ask.fac (now_of below) h.0) refl, ap (seen_of_difs (now_of below)) h.2)
 ]
 
 pub claims_seen : (fac node : ℕ) (app : List ℕ) (result : Option Port) (difs difs' : List Dif) (below : Tower) → IsRank difs below → AtDif fac (Serves (λ s s'. Claims s fac node app result s') ChangesClaims fac) (result ≡ None) difs difs' → Claims (seen_of_difs (now_of below) difs) fac node app result (seen_of_difs (now_of below) difs')

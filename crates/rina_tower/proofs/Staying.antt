@@ -69,7 +69,7 @@ same_planned plan (Rank' p difs below) (Wires a') s h = absurd s
 pub none_planned : (plan : Plan) (rank : ℕ) → AreOfPlan plan rank []
 none_planned plan rank n d at = absurd cc
 
-made_planned : (plan : Plan) (i rank : ℕ) (e : DifPlan) (d : Dif) (old new : Seen) → slice_get plan.difs i ≡ Some e → e.rank ≡ rank → IsNew plan i d old new → d.laid ≡ record { is_static = e.is_static; links = e.links } → IsOfPlan plan rank d
+made_planned : (plan : Plan) (i rank : ℕ) (e : DifPlan) (d : Dif) (old new : Seen) → slice_get plan.difs i ≡ Some e → e.rank ≡ rank → IsNew plan i d old new → d.laid ≡ record { is_static = e.is_static; links = e.links; wait = e.wait } → IsOfPlan plan rank d
 made_planned plan i rank e d old new is rank_is n laid = record { place = i; dif = e; is_dif = is; its_rank = rank_is; settings = n.settings; laid = laid }
 
 -- one DIF more
@@ -79,5 +79,5 @@ more_planned plan rank [] d new h (suc n) x at = absurd cc
 more_planned plan rank (e ∷ es) d new h zero x at = h zero x at
 more_planned plan rank (e ∷ es) d new h (suc n) x at = more_planned plan rank es d new (λ k y is. h (suc k) y is) n x at
 
-pub next_planned : (plan : Plan) (i rank : ℕ) (e : DifPlan) (difs difs' : List Dif) (d : Dif) (old new : Seen) → slice_get plan.difs i ≡ Some e → e.rank ≡ rank → IsNew plan i d old new → d.laid ≡ record { is_static = e.is_static; links = e.links } → difs' ≡ difs ++ d ∷ [] → AreOfPlan plan rank difs → AreOfPlan plan rank difs'
+pub next_planned : (plan : Plan) (i rank : ℕ) (e : DifPlan) (difs difs' : List Dif) (d : Dif) (old new : Seen) → slice_get plan.difs i ≡ Some e → e.rank ≡ rank → IsNew plan i d old new → d.laid ≡ record { is_static = e.is_static; links = e.links; wait = e.wait } → difs' ≡ difs ++ d ∷ [] → AreOfPlan plan rank difs → AreOfPlan plan rank difs'
 next_planned plan i rank e difs difs' d old new is rank_is n laid more h = subst (AreOfPlan plan rank) (sym more) (more_planned plan rank difs d (made_planned plan i rank e d old new is rank_is n laid) h)

@@ -79,7 +79,7 @@ pub rank_ticked : (difs difs' : List Dif) (below below' : Tower) → IsRank difs
 rank_ticked difs difs' below below' rank v v' height alone clocked = is_rank difs' below' v' (let low = rank.low in omega (arith, low, height)) (record {
   stand = λ n d' at.
       let w = was n d' at in
-      w.2.stands (seen_of below) (seen_of below') (kept_of below' v') (lifted (config_of w.0.settings) Anyone (seen_of below) (seen_of below') (kept_of below v) (kept_of below' v') (λ name mine. tt) alone) (seen_now below') (rank.standing.stand n w.0 w.1);
+      w.2.stands (seen_of below) (seen_of below') (kept_of below' v') (lifted (config_of w.0.settings) Anyone (seen_of below) (seen_of below') (kept_of below v) (kept_of below' v') (λ name mine. tt) (rank.standing.stand n w.0 w.1).1.standing.inside alone) (seen_now below') (rank.standing.stand n w.0 w.1);
   number = λ n d' at. (let w = was n d' at in ap (λ (g : Config). g.fac) (config n d' at) ∙ rank.standing.number n w.0 w.1);
   apart = λ n k d' o' x y ne name mine its.
       let w = was n d' x in

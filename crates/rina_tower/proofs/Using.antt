@@ -106,7 +106,7 @@ ins_at d lines below node n (Err (errors.CountSpent need left)) d' lines' below'
 pub takes_use : (d d' : Dif) (below : Seen) (node n : ℕ) (r : Result InStep StepError) (below' : Seen) → AreIpc (config_of d.settings).members → Stands d below → ((lines : List Direction) → Holds d lines below → TakesHome d lines below node n r d' below') → MayUse below below'
 takes_use d d' below node n r below' ipc st does =
     let t = does st.0 st.1 in
-    uses_one below below' (ins_at (seen_of d) st.0 below node n r (seen_of t.taken) t.lines' below' ipc st.1.standing t.does)
+    uses_one below below' (ins_at (seen_of d) st.0 below node n t.answer (seen_of t.taken) t.between below' ipc st.1.standing t.does)
 
 -- What leaves
 
@@ -194,7 +194,8 @@ links_use d below ipc links i place (clocks.Message link) new flows' below' h = 
 
 serves_use : (d : Dif) (lines : List Direction) (below : Seen) (node : ℕ) (done : ClockStep) (d' : Dif) (lines' : List Direction) (below' : Seen) → AreIpc (config_of d.settings).members → LinksStand d below → Serves d lines below node done d' lines' below' → UsesOne below below'
 serves_use d lines below node done d' lines' below' ipc links (inl flow) = inl flow.same_below
-serves_use d lines below node done d' lines' below' ipc links (inr link) = (let x = link.0.does links in links_use d below ipc links link.0.i x.place done (seen_of d') d'.connections.flows below' x.does)
+serves_use d lines below node done d' lines' below' ipc links (inr (inr ask)) = inl ask.2
+serves_use d lines below node done d' lines' below' ipc links (inr (inl link)) = (let x = link.0.does links in links_use d below ipc links link.0.i x.place done (seen_of d') d'.connections.flows below' x.does)
 
 any_use : (d : Dif) (lines : List Direction) (below : Seen) (node : ℕ) (done : ClockStep) (d' : Dif) (lines' : List Direction) (below' : Seen) → AreIpc (config_of d.settings).members → LinksStand d below → ServesAny d lines below node done d' lines' below' → UsesOne below below'
 any_use d lines below node done d' lines' below' ipc links (inl served) = serves_use d lines below node done d' lines' below' ipc links served.0

@@ -1,4 +1,4 @@
--- A step of a DIF leaves alone the far ends that wait to be claimed.
+-- After a step of a DIF the far ends that waited to be claimed wait still, and behind them those that begin to.
 use Rattle.std.proofs.Common.{◌≡◌, ◌∙◌, ℕ, List, Option, Some, None, Result, Ok, Err, ap, inl, inr, ◌⊎◌}
 use Rattle.rina_base.specs.declared.cause.Cause.{Cause}
 use Rattle.rina_base.specs.declared.cause.Cause.TheVariants as causes
@@ -22,14 +22,20 @@ use Rattle.rina_data.specs.Process.{Process}
 use Rattle.rina_dif_law.specs.Incoming.{Ins, IsArrived, IsTold, Settles, SettlesFlow, SettlesOff}
 use Rattle.rina_dif_law.specs.Outgoing.{Outs}
 use Rattle.rina_dif_law.specs.Sending.{home}
+use Rattle.rina_dif_law.specs.Standing.{IsStanding}
+use Rattle.rina_dif_law.specs.Upward.{IsSilent}
+use Rattle.rina_dif_law.proofs.Upper.{ins_silent, silent_same}
 use Rattle.rina_dif.specs.declared.dif.Dif.{Dif}
 use Rattle.rina_dif.specs.Clocking.{ClockStepsAt, Serves, ServesAny, Steps, StepsFlow, StepsOk}
 use Rattle.rina_dif.specs.Holding.{Holds, Stands}
 use Rattle.rina_dif.specs.Routing.{MayReroute}
 use Rattle.rina_dif.specs.Shown.{seen_of}
 use Rattle.rina_dif.specs.Steps.{AtHome, OutsAt}
-use Rattle.rina_dif.specs.Taking.{InsAt, TakesHome}
+use Rattle.rina_dif.specs.Taking.{InsAt, TakesHome, TellsFlows, TellsNothing}
+use Rattle.rina_dif.specs.Waiting.{BeginToWait}
 use Rattle.rina_dif.proofs.Cutting.{loses_waits}
+use Rattle.rina_dif.proofs.FlowWalk.{flows_silent, flows_wait, silent_rerouted}
+use Rattle.rina_dif.proofs.Waiting.{none_begin, waits_on}
 
 -- the same far ends wait
 abbrev SameWait : DifSeen → DifSeen → Type 0
@@ -85,10 +91,39 @@ rerouted_waits : (d d' : DifSeen) → MayReroute d d' → SameWait d d'
 rerouted_waits d d' (inl same) = ap (λ (x : DifSeen). x.waiting) same
 rerouted_waits d d' (inr r) = ap (λ (x : DifSeen). x.waiting) r.is
 
-pub takes_wait : (d d' : Dif) (below : Seen) (node n : ℕ) (r : Result InStep StepError) (below' : Seen) → Stands d below → ((lines : List Direction) → Holds d lines below → TakesHome d lines below node n r d' below') → (seen_of d').waiting ≡ (seen_of d).waiting
+-- nothing is sent or passed
+same_silent : (d d' : DifSeen) → d' ≡ d → IsSilent d d'
+same_silent d d' same = silent_same d d' (ap (λ (x : DifSeen). x.ends) same) (ap (λ (x : DifSeen). x.config) same) (ap (λ (x : DifSeen). x.clock) same)
+
+ins_home_silent : (d : DifSeen) (lines : List Direction) (below : Seen) (n : ℕ) (r : Result InStep StepError) (d' : DifSeen) (lines' : List Direction) (below' : Seen) (o : Option ℕ) → IsStanding d lines below
+    → AtHome o (λ i. Ins d lines below i n r d' lines' below') ((r ≡ Err errors.NoIpc) × (d' ≡ d) × (lines' ≡ lines) × (below' ≡ below)) → IsSilent d d'
+ins_home_silent d lines below n r d' lines' below' (Some i) st h = ins_silent d lines below i n r d' lines' below' st h
+ins_home_silent d lines below n r d' lines' below' None st h = same_silent d d' h.1
+
+ins_at_silent : (d : DifSeen) (lines : List Direction) (below : Seen) (node n : ℕ) (r : Result InStep StepError) (d' : DifSeen) (lines' : List Direction) (below' : Seen) → IsStanding d lines below → InsAt d lines below node n r d' lines' below' → IsSilent d d'
+ins_at_silent d lines below node n (Ok done) d' lines' below' st h = ins_home_silent d lines below n (Ok done) d' lines' below' (home node d.config.members) st h
+ins_at_silent d lines below node n (Err errors.Memory) d' lines' below' st h = same_silent d d' h.0
+ins_at_silent d lines below node n (Err errors.NoIpc) d' lines' below' st h = ins_home_silent d lines below n (Err errors.NoIpc) d' lines' below' (home node d.config.members) st h
+ins_at_silent d lines below node n (Err errors.NoLink) d' lines' below' st h = ins_home_silent d lines below n (Err errors.NoLink) d' lines' below' (home node d.config.members) st h
+ins_at_silent d lines below node n (Err (errors.CountSpent need left)) d' lines' below' st h = ins_home_silent d lines below n (Err (errors.CountSpent need left)) d' lines' below' (home node d.config.members) st h
+
+-- new far ends begin to wait as the messages about flows are handled, and no others
+told_wait : (d : Dif) (below : Seen) (n : ℕ) (answer : Result InStep StepError) (handled : Dif) (between : List Direction) (below' : Seen) (r : Result InStep StepError) (d' : Dif) (lines' : List Direction) (home_is : Option ℕ)
+    → AtHome home_is (λ i. TellsFlows d below i n answer handled between below' r d' lines') (TellsNothing answer handled between r d' lines') → IsSilent (seen_of handled) (seen_of d') × BeginToWait (seen_of handled) (seen_of d')
+told_wait d below n answer handled between below' r d' lines' (Some i) t =
+    let after : Dif = record d' { failed = handled.failed } in
+    (flows_silent handled between below' i t.messages t.stopped after lines' t.handles, flows_wait handled between below' i t.messages t.stopped after lines' t.handles)
+told_wait d below n answer handled between below' r d' lines' None t =
+    let same : seen_of d' ≡ seen_of handled = ap seen_of t.1 in
+    (same_silent (seen_of handled) (seen_of d') same, none_begin (seen_of handled) (seen_of d') (ap (λ (z : DifSeen). z.waiting) same))
+
+pub takes_wait : (d d' : Dif) (below : Seen) (node n : ℕ) (r : Result InStep StepError) (below' : Seen) → Stands d below → ((lines : List Direction) → Holds d lines below → TakesHome d lines below node n r d' below') → BeginToWait (seen_of d) (seen_of d')
 takes_wait d d' below node n r below' st does =
     let t = does st.0 st.1 in
-    rerouted_waits (seen_of t.taken) (seen_of d') t.rerouted ∙ ins_at (seen_of d) st.0 below node n r (seen_of t.taken) t.lines' below' t.does
+    let told = told_wait d below n t.answer t.handled t.between below' r d' t.lines' (home node (config_of d.settings).members) t.told in
+    let same = rerouted_waits (seen_of t.taken) (seen_of t.handled) t.rerouted ∙ ins_at (seen_of d) st.0 below node n t.answer (seen_of t.taken) t.between below' t.does in
+    let silent = silent_rerouted (seen_of d) (seen_of t.taken) (seen_of t.handled) t.rerouted (ins_at_silent (seen_of d) st.0 below node n t.answer (seen_of t.taken) t.between below' st.1.standing t.does) in
+    waits_on (seen_of d) (seen_of t.handled) (seen_of d') silent told.0 (none_begin (seen_of d) (seen_of t.handled) same) told.1
 
 -- What leaves
 
@@ -104,12 +139,15 @@ outs_home : (refuses : Port → ℕ → Option SendError) (d : DifSeen) (below :
 outs_home refuses d below n r d' below' (Some i) h = outs_wait refuses d below i n r d' below' h
 outs_home refuses d below n r d' below' None h = ap (λ (x : DifSeen). x.waiting) h.1
 
-pub leaves_wait : (refuses : Port → ℕ → Option SendError) (d d' : Dif) (below : Seen) (node n : ℕ) (r : Result OutStep StepError) (below' : Seen) → OutsAt refuses (seen_of d) below node n r (seen_of d') below' → (seen_of d').waiting ≡ (seen_of d).waiting
-leaves_wait refuses d d' below node n (Ok done) below' h = outs_home refuses (seen_of d) below n (Ok done) (seen_of d') below' (home node (seen_of d).config.members) h
-leaves_wait refuses d d' below node n (Err errors.Memory) below' h = ap (λ (x : DifSeen). x.waiting) h.0
-leaves_wait refuses d d' below node n (Err errors.NoIpc) below' h = outs_home refuses (seen_of d) below n (Err errors.NoIpc) (seen_of d') below' (home node (seen_of d).config.members) h
-leaves_wait refuses d d' below node n (Err errors.NoLink) below' h = outs_home refuses (seen_of d) below n (Err errors.NoLink) (seen_of d') below' (home node (seen_of d).config.members) h
-leaves_wait refuses d d' below node n (Err (errors.CountSpent need left)) below' h = outs_home refuses (seen_of d) below n (Err (errors.CountSpent need left)) (seen_of d') below' (home node (seen_of d).config.members) h
+same_left : (refuses : Port → ℕ → Option SendError) (d d' : Dif) (below : Seen) (node n : ℕ) (r : Result OutStep StepError) (below' : Seen) → OutsAt refuses (seen_of d) below node n r (seen_of d') below' → SameWait (seen_of d) (seen_of d')
+same_left refuses d d' below node n (Ok done) below' h = outs_home refuses (seen_of d) below n (Ok done) (seen_of d') below' (home node (seen_of d).config.members) h
+same_left refuses d d' below node n (Err errors.Memory) below' h = ap (λ (x : DifSeen). x.waiting) h.0
+same_left refuses d d' below node n (Err errors.NoIpc) below' h = outs_home refuses (seen_of d) below n (Err errors.NoIpc) (seen_of d') below' (home node (seen_of d).config.members) h
+same_left refuses d d' below node n (Err errors.NoLink) below' h = outs_home refuses (seen_of d) below n (Err errors.NoLink) (seen_of d') below' (home node (seen_of d).config.members) h
+same_left refuses d d' below node n (Err (errors.CountSpent need left)) below' h = outs_home refuses (seen_of d) below n (Err (errors.CountSpent need left)) (seen_of d') below' (home node (seen_of d).config.members) h
+
+pub leaves_wait : (refuses : Port → ℕ → Option SendError) (d d' : Dif) (below : Seen) (node n : ℕ) (r : Result OutStep StepError) (below' : Seen) → OutsAt refuses (seen_of d) below node n r (seen_of d') below' → BeginToWait (seen_of d) (seen_of d')
+leaves_wait refuses d d' below node n r below' h = none_begin (seen_of d) (seen_of d') (same_left refuses d d' below node n r below' h)
 
 -- What comes with time
 
@@ -126,7 +164,8 @@ clock_flow d lines node (clocks.Message link) new lines' s = absurd s
 
 clock_served : (d : Dif) (lines : List Direction) (below : Seen) (node : ℕ) (done : ClockStep) (d' : Dif) (lines' : List Direction) (below' : Seen) → Serves d lines below node done d' lines' below' → SameWait (seen_of d) (seen_of d')
 clock_served d lines below node done d' lines' below' (inl flow) = clock_flow d lines node done (seen_of d') lines' flow.does
-clock_served d lines below node done d' lines' below' (inr link) = ap (λ (z : Dif). (seen_of z).waiting) link.0.only
+clock_served d lines below node done d' lines' below' (inr (inr ask)) = ap (λ (z : Dif). (seen_of z).waiting) ask.0.only
+clock_served d lines below node done d' lines' below' (inr (inl link)) = ap (λ (z : Dif). (seen_of z).waiting) link.0.only
 
 clock_any : (d : Dif) (lines : List Direction) (below : Seen) (node : ℕ) (done : ClockStep) (d' : Dif) (lines' : List Direction) (below' : Seen) → ServesAny d lines below node done d' lines' below' → SameWait (seen_of d) (seen_of d')
 clock_any d lines below node done d' lines' below' (inl served) = clock_served d lines below node done d' lines' below' served.0
@@ -151,9 +190,12 @@ clock_at : (d : Dif) (lines : List Direction) (below : Seen) (node : ℕ) (r : R
 clock_at d lines below node r d' lines' below' (Some i) s = clock_ok d lines below node r d' lines' below' s
 clock_at d lines below node r d' lines' below' None s = ap (λ (x : DifSeen). x.waiting) s.1
 
-pub clock_waits : (d : Dif) (lines : List Direction) (below : Seen) (node : ℕ) (r : Result ClockStep StepError) (d' : Dif) (lines' : List Direction) (below' : Seen) → ClockStepsAt d lines below node r d' lines' below' → (seen_of d').waiting ≡ (seen_of d).waiting
-clock_waits d lines below node (Ok done) d' lines' below' s = clock_at d lines below node (Ok done) d' lines' below' (home node (config_of d.settings).members) s
-clock_waits d lines below node (Err errors.Memory) d' lines' below' s = ap (λ (x : DifSeen). x.waiting) s.0
-clock_waits d lines below node (Err errors.NoIpc) d' lines' below' s = clock_at d lines below node (Err errors.NoIpc) d' lines' below' (home node (config_of d.settings).members) s
-clock_waits d lines below node (Err errors.NoLink) d' lines' below' s = clock_at d lines below node (Err errors.NoLink) d' lines' below' (home node (config_of d.settings).members) s
-clock_waits d lines below node (Err (errors.CountSpent need left)) d' lines' below' s = ap (λ (x : DifSeen). x.waiting) s.1
+same_clocked : (d : Dif) (lines : List Direction) (below : Seen) (node : ℕ) (r : Result ClockStep StepError) (d' : Dif) (lines' : List Direction) (below' : Seen) → ClockStepsAt d lines below node r d' lines' below' → SameWait (seen_of d) (seen_of d')
+same_clocked d lines below node (Ok done) d' lines' below' s = clock_at d lines below node (Ok done) d' lines' below' (home node (config_of d.settings).members) s
+same_clocked d lines below node (Err errors.Memory) d' lines' below' s = ap (λ (x : DifSeen). x.waiting) s.0
+same_clocked d lines below node (Err errors.NoIpc) d' lines' below' s = clock_at d lines below node (Err errors.NoIpc) d' lines' below' (home node (config_of d.settings).members) s
+same_clocked d lines below node (Err errors.NoLink) d' lines' below' s = clock_at d lines below node (Err errors.NoLink) d' lines' below' (home node (config_of d.settings).members) s
+same_clocked d lines below node (Err (errors.CountSpent need left)) d' lines' below' s = ap (λ (x : DifSeen). x.waiting) s.1
+
+pub clock_waits : (d : Dif) (lines : List Direction) (below : Seen) (node : ℕ) (r : Result ClockStep StepError) (d' : Dif) (lines' : List Direction) (below' : Seen) → ClockStepsAt d lines below node r d' lines' below' → BeginToWait (seen_of d) (seen_of d')
+clock_waits d lines below node r d' lines' below' s = none_begin (seen_of d) (seen_of d') (same_clocked d lines below node r d' lines' below' s)

@@ -23,7 +23,7 @@ use Rattle.rina_wire.proofs.Seen.{fac_at, seen_on_wire}
 use Rattle.rina_wire.proofs.SoundCut.{OnlyStates, cut_states, cuts_later}
 use Rattle.rina_wire.proofs.Ticks.{whole}
 use Rattle.rina_tower.specs.Bystanders.{Anyone, Leaves, LeavesEnds, LeavesNow}
-use Rattle.rina_tower.proofs.Alone.{end_alone, fac_alone, same_alone}
+use Rattle.rina_tower.proofs.Alone.{end_alone, fac_alone, others_new, same_alone}
 
 -- Journals of which nothing was sent or passed
 
@@ -33,10 +33,7 @@ record AreQuiet (es es' : List End) : Type 0 where
   same : (i : ℕ) (e e' : End) → At es i e → At es' i e' → (e'.sent ≡ e.sent) × (e'.taken ≡ e.taken)
 
 quiet_alone : (es es' : List End) → AreQuiet es es' → LeavesEnds Anyone es es'
-quiet_alone es es' q = record {
-  stays = λ i e e' x y mine. q.same i e e' x y;
-  fresh = λ i e' y past. absurd (let within = slice_get_within es' i e' y in let size = q.size in omega (arith, within, past, size));
-}
+quiet_alone es es' q = others_new Anyone es es' (λ i e e' x y mine. q.same i e e' x y) (λ i e' y past. absurd (let within = slice_get_within es' i e' y in let size = q.size in omega (arith, within, past, size)))
 
 quiet_same : (es : List End) → AreQuiet es es
 quiet_same es = record { size = refl; same = λ i e e' x y. (let is : e' ≡ e = same_Some e' e (sym y ∙ x) in (ap (λ (z : End). z.sent) is, ap (λ (z : End). z.taken) is)) }

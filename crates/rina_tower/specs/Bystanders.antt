@@ -1,8 +1,9 @@
 -- What a call leaves alone at a rank.
-use Rattle.std.specs.Prelude.{◌≡◌, ℕ, ◌≤◌, Bool, true, List, length, slice_get, is_some, Some}
+use Rattle.std.specs.Prelude.{◌≡◌, ℕ, ◌≤◌, ◌⊎◌, Bool, true, List, [], length, slice_get, is_some, Some}
 use Rattle.rina_base.specs.Names.{slash_in}
 use Rattle.rina_iface.specs.declared.ends.End.{End}
-use Rattle.rina_iface.specs.Journal.{At}
+use Rattle.rina_iface.specs.declared.state.Role.TheVariants.{Far}
+use Rattle.rina_iface.specs.Journal.{At, IsNamed, IsPartner}
 use Rattle.rina_iface.specs.Later.{IsLater}
 use Rattle.rina_iface.specs.Seen.{Fac, Seen}
 
@@ -17,10 +18,21 @@ IsIpc name = is_ipc name ≡ true
 abbrev pub Anyone : List ℕ → Type 0
 Anyone name = Unit {0}
 
--- no end of these applications sent or passed anything, and no new end is one of theirs
+-- the far end of a flow whose asker stands among these ends
+pub record AnswersOne (ends : List End) (e : End) : Type 0 where
+  pub place : ℕ
+  pub asker : End
+  pub stands : At ends place asker
+  pub far : e.role ≡ Far
+  pub partner : IsPartner e asker
+  pub named : IsNamed e asker
+
+-- no end of these applications sent or passed anything, and a new end of one of them, or with one of them as its peer, is the far end of
+-- a flow whose asker stood there
 pub record LeavesEnds (who : List ℕ → Type 0) (old new : List End) : Type 0 where
   pub stays : (i : ℕ) (e e' : End) → At old i e → At new i e' → who e'.app → (e'.sent ≡ e.sent) × (e'.taken ≡ e.taken)
-  pub fresh : (i : ℕ) (e' : End) → At new i e' → length old ≤ i → (who e'.app → ⊥) × (who e'.peer → ⊥)
+  pub fresh : (i : ℕ) (e' : End) → At new i e' → length old ≤ i → who e'.app ⊎ who e'.peer → AnswersOne old e'
+  pub unsent : (i : ℕ) (e' : End) → At new i e' → length old ≤ i → who e'.app → (e'.sent ≡ []) × (e'.taken ≡ 0)
 
 -- and so at each facility of a rank, whose journals are later
 pub record Leaves (who : List ℕ → Type 0) (old new : Seen) : Type 0 where

@@ -26,15 +26,19 @@ use Rattle.rina_iface.specs.Send.{Sends}
 use Rattle.rina_iface.specs.Unregister.{Unregisters}
 use Rattle.rina_law.specs.Direction.{Direction}
 use Rattle.rina_dif.specs.declared.dif.Dif.{Dif}
+use Rattle.rina_dif.specs.Allocating.{allocate_refusal}
 use Rattle.rina_dif.specs.Binding.{BindsTo, MayBind as MakesFlow}
-use Rattle.rina_dif.specs.Changing.{BindsManaged, FreesManaged}
+use Rattle.rina_dif.specs.Changing.{BindsManaged}
+use Rattle.rina_dif.specs.FlowEnds.{FreesManaged}
 use Rattle.rina_flows.specs.Elsewhere.{SameBut}
 use Rattle.rina_dif.specs.Elsewhere.{ChangesOnly, IsPortAt, WhenOk, home_of}
 use Rattle.rina_dif.specs.Facade.{GoesOn, IsShownAs, PassesAt, StaysStanding, its_oldest, own_refusal, shown_as}
 use Rattle.rina_dif.specs.Freeing.{FreesAt}
 use Rattle.rina_dif.specs.Holding.{Holds}
 use Rattle.rina_dif.specs.Registering.{RegistersManaged, UnregistersManaged, register_refusal, unregister_refusal}
+use Rattle.rina_dif.specs.Requesting.{RequestsAs}
 use Rattle.rina_dif.specs.Sending.{SendsAt}
+use Rattle.rina_dif.specs.WaitingAsks.{FreesAsks}
 use Rattle.rina_dif.specs.Whole.{IsDif}
 use Rattle.rina_wire.specs.Allocate.{AllocatesOn}
 use Rattle.rina_wire.specs.Bind.{BindsOn}
@@ -45,7 +49,7 @@ use Rattle.rina_wire.specs.Send.{SendsOn, passed}
 use Rattle.rina_wire.specs.Unregister.{UnregistersOn}
 use Rattle.rina_tower.specs.declared.tower.Tower.{Tower, Wires, Rank'}
 use Rattle.rina_tower.specs.Levels.{AtDif, IsAtDif}
-use Rattle.rina_tower.specs.Unchanged.{ChangesClaims, ChangesEntries, ChangesFlows, ChangesMembers, ChangesNames, ChangesNothing, ChangesTraffic}
+use Rattle.rina_tower.specs.Unchanged.{ChangesAsks, ChangesClaims, ChangesEntries, ChangesFlows, ChangesMembers, ChangesNames, ChangesTraffic}
 use Rattle.rina_tower.specs.MemoryFailure.{has_failed}
 
 -- all of these are DIFs
@@ -105,10 +109,17 @@ UnregistersAtTop fac node app result t t' = ⊥
 abbrev pub UnregistersWhole : Tower → ℕ → ℕ → List ℕ → Result (Unit {0}) UnregisterError → Tower → Type 0
 UnregistersWhole t fac node app result t' = (has_failed t ≡ false → UnregistersAtTop fac node app result t t') × (has_failed t ≡ true → (result ≡ Err unregister.Memory) × (t' ≡ t))
 
+-- what `allocate` does at a DIF that is the facility that is meant: to the managements of its members too, and each connection that was there stays as
+-- it was
+pub record AllocatesFrom (ask : Ask) (result : Result Port AllocateError) (d d' : Dif) : Type 0 where
+  pub serves : Serves (λ s s'. d.settings.fac ≡ ask.fac → Allocates (allocate_refusal d ask) s ask result s') ChangesAsks ask.fac d d'
+  pub requests : RequestsAs result d ask d'
+  pub leaves : SameBut (λ i. length d.flows.conns ≤ i) d.flows.conns d'.flows.conns
+
 abbrev pub AllocatesAtTop : Ask → Result Port AllocateError → Tower → Tower → Type 0
 AllocatesAtTop ask result (Wires a) (Wires a') = AllocatesOn a ask result a'
 AllocatesAtTop ask result (Rank' p difs below) (Rank' p' difs' below') =
-    AtDif ask.fac (Serves (λ s s'. Allocates (Some allocate.Unbuilt) s ask result s') ChangesNothing ask.fac) (result ≡ Err allocate.NoMember) difs difs' × (below' ≡ below)
+    AtDif ask.fac (AllocatesFrom ask result) (result ≡ Err allocate.NoMember) difs difs' × (below' ≡ below)
 AllocatesAtTop ask result t t' = ⊥
 
 -- the same, whether or not an allocation had failed before
@@ -172,11 +183,12 @@ PassesAtTop port t t' = ⊥
 
 -- The end of a flow
 
--- what `free` does at the DIF of a port, to the management of the member too, where no other end, no other connection and no IPC process of another node changes
+-- what `free` does at the DIF of a port, to the management of the member and to the asks that wait too, where no other end, no other connection and no IPC process of another node changes
 pub record FreesFrom (port : Port) (result : Result (Unit {0}) FreeError) (d d' : Dif) : Type 0 where
   pub serves : Serves (λ s s'. Frees false s port result s') ChangesMembers port.fac d d'
   pub does : (lines : List Direction) (below : Seen) → Holds d lines below → FreesAt (place_in port d.flows.journal.ends) d lines below result d'
   pub managed : FreesManaged (place_in port d.flows.journal.ends) result d d'.managements
+  pub asks : FreesAsks (place_in port d.flows.journal.ends) result d d'.asks.items
   pub leaves : ChangesOnly (λ i. WhenOk result (IsPortAt d port i)) (home_of d port.node) d d'
 
 abbrev pub FreesAtTop : Port → Result (Unit {0}) FreeError → Tower → Tower → Type 0

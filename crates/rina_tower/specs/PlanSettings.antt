@@ -14,7 +14,7 @@ pub record IsOfPlan (plan : Plan) (rank : ℕ) (d : Dif) : Type 0 where
   pub is_dif : slice_get plan.difs place ≡ Some dif
   pub its_rank : dif.rank ≡ rank
   pub settings : settings_of plan place ≡ Some d.settings
-  pub laid : d.laid ≡ record { is_static = dif.is_static; links = dif.links }
+  pub laid : d.laid ≡ record { is_static = dif.is_static; links = dif.links; wait = dif.wait }
 
 -- and so each of a rank
 abbrev pub AreOfPlan : Plan → ℕ → List Dif → Type 0

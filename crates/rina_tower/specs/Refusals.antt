@@ -5,7 +5,6 @@ use Rattle.rina_conn.specs.declared.conn.Conn.{Conn}
 use Rattle.rina_iface.specs.declared.ask.Ask.{Ask}
 use Rattle.rina_iface.specs.declared.ends.End.{End}
 use Rattle.rina_iface.specs.declared.error.AllocateError.{AllocateError}
-use Rattle.rina_iface.specs.declared.error.AllocateError.TheVariants as allocate
 use Rattle.rina_iface.specs.declared.error.RegisterError.{RegisterError}
 use Rattle.rina_iface.specs.declared.error.SendError.{SendError}
 use Rattle.rina_iface.specs.declared.error.SendError.TheVariants.{QueueFull}
@@ -19,6 +18,7 @@ use Rattle.rina_data.specs.Process.{Process, next_hop, queue_place}
 use Rattle.rina_dif_law.specs.Ids.{Ids}
 use Rattle.rina_dif_law.specs.Sending.{by_hop, by_process, by_sender, home, process_at, queue_in, room_in}
 use Rattle.rina_dif.specs.declared.dif.Dif.{Dif}
+use Rattle.rina_dif.specs.Allocating.{allocate_refusal}
 use Rattle.rina_dif.specs.Registering.{register_refusal, unregister_refusal}
 use Rattle.rina_dif.specs.Facade.{own_at, own_by, own_refusal, pieces_in, way_refusal}
 use Rattle.rina_flows.specs.Tied.{ids_of}
@@ -27,13 +27,16 @@ use Rattle.rina_wire.specs.Allocate.{own_allocate_refusal}
 use Rattle.rina_wire.specs.Send.{own_send_refusal, refuses_own as wires_refuse}
 use Rattle.rina_tower.specs.declared.tower.Tower.{Tower, Wires, Rank'}
 
--- over DIFs a name is refused by the member at its node, and flows cannot be asked for yet
+-- over DIFs a name is refused by the member at its node, and so is an ask
 
 abbrev pub own_register : List Dif → ℕ → ℕ → Option RegisterError
 own_register difs fac node = option_and_then (λ (d : Dif). register_refusal d node) (slice_get difs fac)
 
 abbrev pub own_unregister : List Dif → ℕ → ℕ → Option UnregisterError
 own_unregister difs fac node = option_and_then (λ (d : Dif). unregister_refusal d node) (slice_get difs fac)
+
+abbrev pub own_allocate : List Dif → Ask → Option AllocateError
+own_allocate difs ask = option_and_then (λ (d : Dif). allocate_refusal d ask) (slice_get difs ask.fac)
 
 abbrev pub refuses_register : Tower → ℕ → ℕ → List ℕ → Option RegisterError
 refuses_register (Wires a) fac node app = None
@@ -45,7 +48,7 @@ refuses_unregister (Rank' p difs below) fac node app = own_unregister difs fac n
 
 abbrev pub refuses_allocate : Tower → Ask → Option AllocateError
 refuses_allocate (Wires a) ask = own_allocate_refusal a ask
-refuses_allocate (Rank' p difs below) ask = Some allocate.Unbuilt
+refuses_allocate (Rank' p difs below) ask = own_allocate difs ask
 
 -- a send, by the DIF of the port
 abbrev pub refuses_send : Tower → Port → ℕ → Option SendError

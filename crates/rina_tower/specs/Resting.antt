@@ -1,6 +1,7 @@
 -- When a tower rests: until a tick nothing happens in it by itself.
 use Rattle.std.specs.Prelude.{◌≡◌, ℕ, List, [], map, slice_get, Some}
-use Rattle.rina_iface.specs.Seen.{Fac, Seen}
+use Rattle.rina_iface.specs.Claim.{AreClaimed}
+use Rattle.rina_iface.specs.Seen.{Seen}
 use Rattle.rina_dif.specs.declared.dif.Dif.{Dif}
 use Rattle.rina_dif.specs.Resting.{RestsUntil as DifRests}
 use Rattle.rina_dif.specs.Shown.{seen_of as seen_of_dif}
@@ -18,17 +19,13 @@ abbrev pub AreResting : ℕ → List Dif → Seen → Type 0
 AreResting until difs below = (n : ℕ) (d : Dif) → slice_get difs n ≡ Some d → DifRests until d below
 
 -- no far end waits at any of the DIFs to be claimed
-abbrev pub AreClaimed : List Dif → Type 0
-AreClaimed difs = (n : ℕ) (d : Dif) → slice_get difs n ≡ Some d → (seen_of_dif d).waiting ≡ []
-
--- so it is of a rank
-abbrev pub NoneWaits : Seen → Type 0
-NoneWaits s = (n : ℕ) (f : Fac) → slice_get s.facs n ≡ Some f → f.waiting ≡ []
+abbrev pub AreDifsClaimed : List Dif → Type 0
+AreDifsClaimed difs = (n : ℕ) (d : Dif) → slice_get difs n ≡ Some d → (seen_of_dif d).waiting ≡ []
 
 -- nothing arrives on the wires before this tick, each DIF of each rank rests, and at no rank below another one a far end waits to be claimed
 abbrev pub RestsUntil : ℕ → Tower → Type 0
 RestsUntil until (Wires a) = WiresRest until a
-RestsUntil until (Rank' p difs below) = AreResting until difs (seen_of below) × NoneWaits (seen_of below) × RestsUntil until below
+RestsUntil until (Rank' p difs below) = AreResting until difs (seen_of below) × AreClaimed (seen_of below) × RestsUntil until below
 
 -- the DIF with another clock
 abbrev pub dif_at : ℕ → Dif → Dif

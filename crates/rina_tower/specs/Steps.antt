@@ -35,8 +35,8 @@ use Rattle.rina_tower.specs.Unchanged.{ChangesByClock, ChangesConnections, Chang
 
 -- What comes
 
--- a DIF takes the oldest SDU of a link; of the ends, with their connections, it changes at most the one to which the PDU came
--- that it tells, and it changes no IPC process of another node
+-- a DIF takes the oldest SDU of a link; of the ends that stand, with their connections, it changes at most those of the member at that node, be it that the PDU
+-- came to one or that messages about flows did; it may make ends, and it changes no IPC process of another node
 pub record TakesOne (below : Seen) (node link : ℕ) (result : Result InStep StepError) (below' : Seen) (d d' : Dif) : Type 0 where
   pub does : (lines : List Direction) → Holds d lines below → TakesHome d lines below node link result d' below'
   pub after : StandsAfter below below' d d'
@@ -81,7 +81,7 @@ OutSteps may slots slots' r dif node link result t t' =
 -- What comes with time
 
 -- a DIF does the first thing that is due at a node; a flow fails only for its causes. Of the ends, with their connections,
--- it changes at most the one whose CEP-id it tells, or, where a link is lost, those of the node; and no IPC process of
+-- it changes at most the one whose CEP-id or port it tells, or, where a link is lost, those of the node; and no IPC process of
 -- another node. Where a link is lost or new, the management of the member there loses or gets it; no other management changes
 pub record ClocksOne (below : Seen) (node : ℕ) (result : Result ClockStep StepError) (below' : Seen) (d d' : Dif) : Type 0 where
   pub does : (lines : List Direction) → Holds d lines below → ClockSteps d lines below node result d' below'

@@ -16,9 +16,9 @@ pub record AreStaying (difs difs' : List Dif) : Type 0 where
 
 -- Parts of a DIF
 
--- nothing of the DIF changed
-abbrev pub ChangesNothing : Dif → Dif → Type 0
-ChangesNothing d d' = d' ≡ d
+-- nothing but its flows, the managements and the CEP-ids of its members, the asks that wait, and whether an allocation has failed
+abbrev pub ChangesAsks : Dif → Dif → Type 0
+ChangesAsks d d' = d' ≡ record d { flows = d'.flows; ids = d'.ids; managements = d'.managements; asks = d'.asks; failed = d'.failed }
 
 -- nothing but its clock, which is this now
 abbrev pub ChangesClock : ℕ → Dif → Dif → Type 0
@@ -48,19 +48,20 @@ ChangesProcesses d d' = d' ≡ record d { processes = d'.processes; failed = d'.
 abbrev pub ChangesTraffic : Dif → Dif → Type 0
 ChangesTraffic d d' = d' ≡ record d { processes = d'.processes; flows = d'.flows; failed = d'.failed }
 
--- nothing but its IPC processes, the managements of its members, which of these are enrolled, its flows and the management connections of its
--- links, and whether an allocation has failed
+-- nothing but its IPC processes, the managements and the CEP-ids of its members, which of these are enrolled, its flows and those that wait to be
+-- claimed, its asks that wait, and the management connections of its links, and whether an allocation has failed
 abbrev pub ChangesConnections : Dif → Dif → Type 0
-ChangesConnections d d' = d' ≡ record d { processes = d'.processes; flows = d'.flows; connections = d'.connections; managements = d'.managements; enrolled = d'.enrolled; failed = d'.failed }
+ChangesConnections d d' = d' ≡ record d { processes = d'.processes; flows = d'.flows; connections = d'.connections; managements = d'.managements; enrolled = d'.enrolled; ids = d'.ids; waiting = d'.waiting; asks = d'.asks; failed = d'.failed }
 
--- nothing but its IPC processes, the managements and the CEP-ids of its members and its flows, and whether an allocation has failed
+-- nothing but its IPC processes, the managements and the CEP-ids of its members, its flows and the asks that wait, and whether an allocation
+-- has failed
 abbrev pub ChangesMembers : Dif → Dif → Type 0
-ChangesMembers d d' = d' ≡ record d { processes = d'.processes; managements = d'.managements; flows = d'.flows; ids = d'.ids; failed = d'.failed }
+ChangesMembers d d' = d' ≡ record d { processes = d'.processes; managements = d'.managements; flows = d'.flows; ids = d'.ids; asks = d'.asks; failed = d'.failed }
 
--- nothing but its IPC processes, the managements and the CEP-ids of its members, the management connections of its links and its flows, and
--- whether an allocation has failed
+-- nothing but its IPC processes, the managements and the CEP-ids of its members, the management connections of its links, its flows and the
+-- asks that wait, and whether an allocation has failed
 abbrev pub ChangesByClock : Dif → Dif → Type 0
-ChangesByClock d d' = d' ≡ record d { processes = d'.processes; connections = d'.connections; managements = d'.managements; flows = d'.flows; ids = d'.ids; failed = d'.failed }
+ChangesByClock d d' = d' ≡ record d { processes = d'.processes; connections = d'.connections; managements = d'.managements; flows = d'.flows; ids = d'.ids; asks = d'.asks; failed = d'.failed }
 
 -- nothing but its IPC processes, the managements of its members and the management connections of its links, and whether an allocation has failed
 abbrev pub ChangesJoiner : Dif → Dif → Type 0

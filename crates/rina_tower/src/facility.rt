@@ -202,6 +202,13 @@ impl Facility for Tower {
         }
     }
 
+    fn none_waits(&self) -> bool {
+        match self {
+            Tower::Wires(wires) => wires.none_waits(),
+            Tower::Rank(rank) => rank.difs.none_waits(),
+        }
+    }
+
     fn send(&mut self, alloc: Global, port: Port, sdu: &[u8]) -> Result<Num, SendError>
         requires { IsTower self.old }
         ensures valid { IsTower self.new }

@@ -1,11 +1,12 @@
 //! The clock of a tower in which nothing happens.
 ghost use Rattle.std.specs.Prelude.{◌≡◌, ◌+◌, ◌<◌, ◌≤◌, true};
-ghost use Rattle.rina_tower.specs.Ranks.{now_of, seen_of};
-ghost use Rattle.rina_tower.specs.Resting.{IsAtTick, NoneWaits, RestsUntil, WiresRestUntil};
+ghost use Rattle.rina_tower.specs.Ranks.{now_of};
+ghost use Rattle.rina_tower.specs.Resting.{IsAtTick, RestsUntil, WiresRestUntil};
 ghost use Rattle.rina_tower.specs.Stands.{IsTower};
 
 use crate::tower::{Rank, Tower};
 use rina_base::Tick;
+use rina_iface::Facility;
 
 impl Tower {
     /// A tick before which nothing arrives on the wires, where it is after the clock.
@@ -15,16 +16,6 @@ impl Tower {
         match self {
             Tower::Wires(wires) => wires.rests_until(),
             Tower::Rank(rank) => rank.below.wires_rest_until(),
-        }
-    }
-
-    /// Whether no far end waits at the top rank to be claimed.
-    fn none_waits(&self) -> bool
-        ensures { result ≡ true → NoneWaits (seen_of self.now) }
-    {
-        match self {
-            Tower::Wires(wires) => wires.none_waits(),
-            Tower::Rank(rank) => rank.difs.none_waits(),
         }
     }
 

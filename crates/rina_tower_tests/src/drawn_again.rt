@@ -30,7 +30,7 @@ widths = { addr = 1, cep = 1, len = 2, seq = 2 }
 queue = 8
 policy = 'strict'
 wait = 50
-manage = { mpl = 10, r = 10, a = 2, retry = 5, window = 8 }
+manage = { mpl = 10, r = 20, a = 2, retry = 20, window = 8 }
 cube = [{ id = 1, kind = 'datagram', mpl = 4, window = 8, largest = 64 }]
 member = [{ node = 'a', addr = 1 }, { node = 'b', addr = 2 }]
 link = [{ on = 'w', a = 'a', b = 'b' }]
@@ -132,6 +132,18 @@ fn bind(alloc: Global, tower: &mut Tower, fixed: &Fixed) -> Result<Ports, Fail>
     }
 }
 
+/// A round.
+fn go_round(alloc: Global, tower: &mut Tower) -> Result<(), Fail>
+    requires { IsTower tower.old }
+    ensures { IsTower tower.new }
+{
+    let mut shelf = NoPolicies;
+    match tower.round(alloc, &mut shelf) {
+        Ok(()) => Ok(()),
+        Err(_) => Err("no memory for a round".into()),
+    }
+}
+
 /// Rounds, with a tick after each.
 fn wait(alloc: Global, tower: &mut Tower, ticks: u32) -> Result<(), Fail>
     requires { IsTower tower.old }
@@ -183,14 +195,15 @@ fn an_id_that_rests_is_not_drawn(rt: HostRuntime) -> Result<(), Fail> {
 fn an_old_pdu_comes_to_no_new_flow_of_its_id(rt: HostRuntime) -> Result<(), Fail> {
     let alloc = rt.alloc();
     let mut tower = tower(alloc)?;
-    // The end at a is closed; that at b is not told, and goes on sending. The frame of its SDU comes at tick 14.
+    // The end at a is closed. The message that tells b is lost, and sent again at tick 20. The frame of b's SDU comes at tick 14.
     assert!(rt; tower.free(alloc, OLD.0).is_ok());
+    go_round(alloc, &mut tower)?;
+    assert!(rt; tower.lose(0, 0).is_ok());
     wait(alloc, &mut tower, 11)?;
     let old = send(alloc, &mut tower, OLD.1, b"old")?;
     assert_eq!(rt; old, Num { cep: 1, seq: 0 });
-    let mut shelf = NoPolicies;
-    assert!(rt; tower.round(alloc, &mut shelf).is_ok());
-    assert!(rt; tower.hold(0, 0, 14).is_ok());
+    go_round(alloc, &mut tower)?;
+    assert!(rt; tower.hold(0, 1, 14).is_ok());
     wait(alloc, &mut tower, 1)?;
     // At tick 12 id 1 of a has rested, and is drawn again.
     let (from, to) = bind(alloc, &mut tower, &fixed(alloc, b"p", b"q")?)?;

@@ -39,7 +39,7 @@ const ROWS: [Asked; 8] = [
         0,
         0,
         1,
-        Err(EnrolError::Lower(AllocateError::Unbuilt)),
+        Err(EnrolError::Lower(AllocateError::NoSuchApp)),
     ),
 ];
 

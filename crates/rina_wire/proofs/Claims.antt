@@ -1,13 +1,14 @@
 -- What the exact clause of `incoming` says of the facilities that the wires are.
-use Rattle.std.proofs.Common.{◌≡◌, ℕ, true, List, get_or, slice_get, Some, None, Option, option_and_then, option_map, refl, sym, ap, ◌∙◌, subst}
-use Rattle.std.proofs.lemmas.Option.{slice_get-get_or}
+use Rattle.std.proofs.Common.{◌≡◌, ℕ, true, List, [], get_or, slice_get, Some, None, Option, option_and_then, option_map, refl, sym, ap, ◌∙◌, subst}
+use Rattle.std.proofs.lemmas.Option.{same_Some, slice_get-get_or}
 use Rattle.std.proofs.lemmas.List.Quantifiers.{position-Some}
 use Rattle.rina_base.specs.declared.number.Port.{Port}
 use Rattle.rina_iface.specs.declared.ends.End.{End}
-use Rattle.rina_iface.specs.Seen.{is_of, oldest_in}
-use Rattle.rina_iface.specs.Claim.{Claims, IsClaimed}
+use Rattle.rina_iface.specs.Seen.{Fac, is_of, oldest_in}
+use Rattle.rina_iface.specs.Claim.{AreClaimed, Claims, IsClaimed}
 use Rattle.rina_wire.specs.Air.{Air, Line, fac_of, seen_of, wire_at}
 use Rattle.rina_wire.specs.Claim.{ClaimsOn, claim_in, claimed, waiting_end, without}
+use Rattle.rina_wire.specs.Resting.{NoneWaits}
 use Rattle.rina_iface.proofs.Changed.{slice_set-same}
 use Rattle.rina_wire.proofs.Seen.{fac_at, seen_on_wire}
 
@@ -64,3 +65,11 @@ claims_wire a fac node app r (Some l) h is = claims_end a fac node app r l (olde
 
 pub seen_claims : (a : Air) (fac node : ℕ) (app : List ℕ) (r : Option Port) (a' : Air) → ClaimsOn a fac node app r a' → Claims (seen_of a) fac node app r (seen_of a')
 seen_claims a fac node app r a' g = rw g.air (claims_wire a fac node app r (wire_at a fac) refl g.answers)
+
+-- where none waits at any wire, none waits at any of the facilities
+claimed_at : (o : Option Line) (f : Fac) → option_map fac_of o ≡ Some f → ((l : Line) → o ≡ Some l → l.waiting ≡ []) → f.waiting ≡ []
+claimed_at None f is none = cc
+claimed_at (Some l) f is none = subst (λ (g : Fac). g.waiting ≡ []) (same_Some _ _ is) (none l refl)
+
+pub seen_claimed : (a : Air) → NoneWaits a.wires → AreClaimed (seen_of a)
+seen_claimed a none n f is = claimed_at (wire_at a n) f (sym (fac_at a n) ∙ is) (none n)

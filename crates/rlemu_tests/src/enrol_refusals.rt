@@ -115,8 +115,8 @@ enrol high a low b
 member high b
 ----
 1 0 ok
-2 0 no Unbuilt
-3 0 no Unbuilt
+2 0 no NoSuchApp
+3 0 no NoSuchApp
 4 0 ok outside
 end 0
 ====

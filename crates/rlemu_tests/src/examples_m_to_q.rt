@@ -156,6 +156,7 @@ ledger d b
 1 0 ok
 1 0 state q1 closed
 2 0 sent 1.0
+3 2 state p1 closed
 3 2 ok
 4 2 off data 1.1.0 NoConnection 1
 end 2

@@ -60,6 +60,146 @@ read q
 3 2 got 2 'up
 end 2
 ====
+# A tower of three ranks that the schedule builds. The stack gives no links: of each DIF the first member is enrolled, and the others enrol, over wires and then over the DIF below.
+nodes = [\"a\", \"b\", \"c\"]
+[[wire]]
+name = \"w1\"
+ends = [\"a\", \"b\"]
+delay = 2
+life = 10
+largest = 1500
+[[wire]]
+name = \"w2\"
+ends = [\"b\", \"c\"]
+delay = 2
+life = 10
+largest = 1500
+[[dif]]
+name = \"d1\"
+rank = 1
+pdu = 400
+widths = { addr = 1, cep = 1, len = 2, seq = 2 }
+queue = 64
+policy = \"strict\"
+wait = 500
+manage = { mpl = 40, r = 30, a = 2, retry = 10, window = 8 }
+cube = [ { id = 1, kind = \"datagram\", mpl = 40, window = 16, largest = 320 } ]
+member = [ { node = \"a\", addr = 1 }, { node = \"b\", addr = 2 }, { node = \"c\", addr = 3 } ]
+[[dif]]
+name = \"d2\"
+rank = 2
+pdu = 320
+widths = { addr = 1, cep = 1, len = 2, seq = 2 }
+queue = 64
+policy = \"strict\"
+wait = 500
+manage = { mpl = 60, r = 30, a = 2, retry = 10, window = 8 }
+cube = [ { id = 1, kind = \"datagram\", mpl = 60, window = 16, largest = 240 } ]
+member = [ { node = \"a\", addr = 1 }, { node = \"c\", addr = 2 } ]
+[[dif]]
+name = \"d3\"
+rank = 3
+pdu = 240
+widths = { addr = 1, cep = 1, len = 2, seq = 2 }
+queue = 64
+policy = \"strict\"
+wait = 500
+manage = { mpl = 80, r = 30, a = 2, retry = 10, window = 8 }
+cube = [ { id = 1, kind = \"reliable\", mpl = 80, r = 40, a = 2, retry = 20, window = 16, largest = 80 } ]
+member = [ { node = \"a\", addr = 1 }, { node = \"c\", addr = 2 } ]
+%%
+# Rank 1: b enrols at a over w1, and c at b over w2.
+publish d1 a w1
+enrol d1 b w1 a
+tick 10
+publish d1 b w2
+enrol d1 c w2 b
+tick 10
+member d1 c
+# Rank 2: the IPC process of d2 at a is registered in d1, and the members of d1 hear of that. The one at c asks d1 for a flow to it, and joins over that flow.
+publish d2 a d1
+tick 10
+rib d1 c /dir
+enrol d2 c d1 a
+member d2 c
+tick 40
+member d2 c
+# Rank 3: the same once more, over d2.
+publish d3 a d2
+tick 10
+enrol d3 c d2 a
+tick 60
+member d3 c
+# An application at each end: c registers echo, a asks for it.
+register d3 c echo
+tick 20
+alloc p d3 a ping echo reliable
+tick 20
+accept q d3 c echo
+send p 'hello
+tick 20
+read q
+send q 'back
+tick 20
+read p
+# The end that is freed tells the other one, which is closed.
+free p
+tick 20
+state q
+# Each rank has its flow: that of d1 carries d2, that of d2 carries d3.
+journal d3
+rib d2 a /flow
+rib d1 c /flow
+----
+2 0 ok
+3 0 ok
+4 10 ok
+5 10 ok
+6 10 ok
+7 20 ok
+8 20 ok enrolled
+10 20 ok
+11 30 ok
+12 30 obj /dir folder x
+12 30 obj /dir/d2!a value '1
+13 30 ok
+14 30 ok joining 0
+15 70 ok
+16 70 ok enrolled
+18 70 ok
+19 80 ok
+20 80 ok
+21 140 ok
+22 140 ok enrolled
+24 140 ok
+25 160 ok
+26 160 ok pending
+27 168 state p allocated
+27 180 ok
+28 180 ok allocated
+29 180 sent 1.0
+30 200 ok
+31 200 got 184 'hello
+32 200 sent 1.0
+33 220 ok
+34 220 got 204 'back
+36 220 ok
+36 220 state p closed
+37 224 state q closed
+37 240 ok
+38 240 ok closed
+40 240 flow 1.160.0 asker d3/a/1 ping echo 1 1 closed
+40 240 s 180 1.0 'hello
+40 240 g 204 1.0 'back
+40 240 flow 1.160.0 far d3/c/1 echo ping 1 1 closed
+40 240 s 200 1.0 'back
+40 240 g 184 1.0 'hello
+41 240 obj /flow folder x
+41 240 obj /flow/1 flow 'tx=14,rx=15
+42 240 obj /flow folder x
+42 240 obj /flow/1 flow 'tx=26,rx=25
+end 240
+====
 # Three systems in a row, a DIF over both wires, and a second DIF on a flow of the first.
 nodes = [\"a\", \"b\", \"c\"]
 

@@ -2,6 +2,10 @@
 #![tactic(auto)]
 
 #[cfg(test)]
+mod alloc_rows;
+#[cfg(test)]
+mod ask_refusals;
+#[cfg(test)]
 mod check_rows;
 #[cfg(test)]
 mod commands;

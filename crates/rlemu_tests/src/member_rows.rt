@@ -106,7 +106,7 @@ rib d b /dir
 6 0 no NotThere
 7 0 no NoMember
 8 0 no NoCube
-9 0 no Unbuilt
+9 0 no SameSystem
 10 0 none
 11 0 none
 12 0 none

@@ -1,4 +1,6 @@
 //! How a text of inputs and outputs is run.
+use crate::alloc_rows::ALLOC_ROWS;
+use crate::ask_refusals::ASK_REFUSALS;
 use crate::check_rows::CHECK_ROWS;
 use crate::enrol_refusals::ENROL_REFUSALS;
 use crate::enrol_rows::ENROL_ROWS;
@@ -197,6 +199,18 @@ fn the_rows_of_ranks_write_their_outputs(rt: HostRuntime) -> Result<(), Fail> {
 #[test]
 fn the_rows_of_members_write_their_outputs(rt: HostRuntime) -> Result<(), Fail> {
     assert_eq!(rt; other_of_all(rt.alloc(), MEMBER_ROWS)?, None);
+    Ok(())
+}
+
+#[test]
+fn the_rows_of_asked_flows_write_their_outputs(rt: HostRuntime) -> Result<(), Fail> {
+    assert_eq!(rt; other_of_all(rt.alloc(), ALLOC_ROWS)?, None);
+    Ok(())
+}
+
+#[test]
+fn the_rows_of_refused_asks_write_their_outputs(rt: HostRuntime) -> Result<(), Fail> {
+    assert_eq!(rt; other_of_all(rt.alloc(), ASK_REFUSALS)?, None);
     Ok(())
 }
 

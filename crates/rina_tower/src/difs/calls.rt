@@ -1,16 +1,15 @@
 //! The calls of the facilities of a rank, each at the DIF of its number.
-ghost use Rattle.std.specs.Prelude.{◌≡◌, true, Some, None, Err};
+ghost use Rattle.std.specs.Prelude.{◌≡◌, true, None, Err};
 ghost use Rattle.rina_iface.specs.declared.error.AllocateError.TheVariants as allocate;
 ghost use Rattle.rina_iface.specs.declared.error.FreeError.TheVariants as free;
 ghost use Rattle.rina_iface.specs.declared.error.RegisterError.TheVariants as register;
 ghost use Rattle.rina_iface.specs.declared.error.SendError.TheVariants as send;
 ghost use Rattle.rina_iface.specs.declared.error.UnregisterError.TheVariants as unregister;
-ghost use Rattle.rina_iface.specs.Allocate.{Allocates};
 ghost use Rattle.rina_iface.specs.Claim.{Claims};
-ghost use Rattle.rina_tower.specs.Calls.{AreDifs, BindsFrom, MayBind, FreesFrom, PassesFrom, RegistersFrom, SendsFrom, Serves, UnregistersFrom, WaitsThere};
+ghost use Rattle.rina_tower.specs.Calls.{AllocatesFrom, AreDifs, BindsFrom, MayBind, FreesFrom, PassesFrom, RegistersFrom, SendsFrom, Serves, UnregistersFrom, WaitsThere};
 ghost use Rattle.rina_tower.specs.MemoryFailure.{have_failed};
 ghost use Rattle.rina_tower.specs.Levels.{AtDif, IsAtDif};
-ghost use Rattle.rina_tower.specs.Unchanged.{ChangesClaims, ChangesNothing};
+ghost use Rattle.rina_tower.specs.Unchanged.{ChangesClaims};
 
 use super::Difs;
 use rina_base::{AppName, Node, Num, Port};
@@ -59,7 +58,7 @@ impl Difs {
     /// Asks for a flow.
     pub fn allocate(&mut self, alloc: Global, ask: &Ask) -> Result<Port, AllocateError>
         requires { AreDifs self.old }
-        ensures does { AtDif ask.now.fac (Serves (λ s s'. Allocates (Some allocate.Unbuilt) s ask.now result s') ChangesNothing ask.now.fac) (result ≡ Err allocate.NoMember) self.old self.new }
+        ensures does { AtDif ask.now.fac (AllocatesFrom ask.now result) (result ≡ Err allocate.NoMember) self.old self.new }
         ensures fails { result ≡ Err allocate.Memory → have_failed self.new ≡ true }
     {
         let Some(_dif) = self.get(ask.fac) else {

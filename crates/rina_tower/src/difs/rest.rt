@@ -1,7 +1,8 @@
 //! When the DIFs of a rank rest.
 ghost use Rattle.std.specs.Prelude.{◌≡◌, ◌<◌, ℕ, true};
 ghost use Rattle.rina_tower.specs.Ranks.{seen_of_difs};
-ghost use Rattle.rina_tower.specs.Resting.{AreClaimed, AreResting, NoneWaits};
+ghost use Rattle.rina_iface.specs.Claim.{AreClaimed};
+ghost use Rattle.rina_tower.specs.Resting.{AreDifsClaimed, AreResting};
 ghost use Rattle.rina_tower.specs.Stands.{AreStanding};
 
 use super::Difs;
@@ -24,7 +25,7 @@ fn least_rest<F: Facility>(difs: &[Dif], below: &F) -> Tick
 
 /// Whether no far end waits at any of the DIFs to be claimed.
 fn none_waits(difs: &[Dif]) -> bool
-    ensures { result ≡ true → AreClaimed difs.now }
+    ensures { result ≡ true → AreDifsClaimed difs.now }
 {
     for at in 0..difs.len() {
         if !difs[at].none_waits() {
@@ -37,7 +38,7 @@ fn none_waits(difs: &[Dif]) -> bool
 impl Difs {
     /// Whether no far end waits at any of the DIFs to be claimed, whatever the clock says.
     pub fn none_waits(&self) -> bool
-        ensures { result ≡ true → (now : ℕ) → NoneWaits (seen_of_difs now self.now) }
+        ensures { result ≡ true → (now : ℕ) → AreClaimed (seen_of_difs now self.now) }
     {
         none_waits(self.items.as_slice())
     }

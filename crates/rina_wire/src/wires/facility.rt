@@ -21,6 +21,7 @@ ghost use Rattle.rina_wire.specs.Send.{SendsOn, own_send_refusal, passed, refuse
 ghost use Rattle.rina_wire.specs.Sound.{IsSound};
 
 use super::Wires;
+use super::rest::none_waits;
 use rina_base::{AppName, Node, Num, Port, Tick};
 use rina_iface::{
     AllocateError, Ask, Facility, Fixed, FreeError, Journal, Lent, PortState, RegisterError,
@@ -151,6 +152,11 @@ impl Facility for Wires {
         ensures exact { ClaimsOn self.old fac node app.now result self.new }
     {
         self.claim(fac, node, app)
+    }
+
+    #[tactic(auto, using(crate::proofs::Claims::seen_claimed))]
+    fn none_waits(&self) -> bool {
+        none_waits(self.wires.as_slice())
     }
 
     #[tactic(auto, using(crate::proofs::Carried::seen_sends, crate::proofs::SoundSend::sound_sends, crate::proofs::Later::sends_later))]

@@ -20,7 +20,7 @@ fn quiet_until(wires: &[Wire]) -> Tick
 }
 
 /// Whether no far end waits at any of the wires to be claimed.
-fn none_waits(wires: &[Wire]) -> bool
+pub(super) fn none_waits(wires: &[Wire]) -> bool
     ensures { result ≡ true → NoneWaits wires.now }
 {
     for fac in 0..wires.len() {
@@ -32,13 +32,6 @@ fn none_waits(wires: &[Wire]) -> bool
 }
 
 impl Wires {
-    /// Whether no far end waits at any of the wires to be claimed.
-    pub fn none_waits(&self) -> bool
-        ensures { result ≡ true → NoneWaits self.now.wires }
-    {
-        none_waits(self.wires.as_slice())
-    }
-
     /// The first tick at which a copy arrives, where it is after the clock. `Tick::MAX` where none is in flight. Where an
     /// allocation has failed, the clock itself: no tick passes any more.
     pub fn rests_until(&self) -> Tick

@@ -1,3 +1,4 @@
+use Rattle.rina_dif_law.proofs.FarEnds.{silent_on}
 use Rattle.rina_dif_law.proofs.Finishing.{ended_silent}
 use Rattle.rina_dif_law.proofs.Upper.{acknowledged_silent, forgotten_silent, ins_silent, resent_silent, offers_later, outs_silent, passed_later, ticked_silent}
 use Rattle.rina_dif_law.proofs.Linkless.{failed_silent, lost_silent}
@@ -35,3 +36,6 @@ returns-clause-lose c = lost_silent
 
 pub returns-clause-fail : goal.returns-clause-fail
 returns-clause-fail c = failed_silent
+
+pub returns-clause-both : goal.returns-clause-both
+returns-clause-both c = silent_on

@@ -1,4 +1,4 @@
-use Rattle.rina_dif_law.proofs.FarMade.{made_carries, made_later, made_numbers, made_stands}
+use Rattle.rina_dif_law.proofs.FarMade.{made_carries, made_later, made_numbers, made_silent, made_stands}
 use Rattle.rina_dif_law.proofs.laws.far_ends_may_be_made.Goals as goal
 
 pub returns-clause-stands : goal.returns-clause-stands
@@ -12,3 +12,6 @@ returns-clause-numbers c = λ d lines below node at d' lines' st n s. made_numbe
 
 pub returns-clause-later : goal.returns-clause-later
 returns-clause-later c = λ d lines node at d' lines' s. made_later d lines node at d' lines' s
+
+pub returns-clause-silent : goal.returns-clause-silent
+returns-clause-silent c = made_silent

@@ -1,4 +1,6 @@
-use Rattle.rina_flood.proofs.Members.{start_run, goes_on_run, loses_run, makes_run, takes_run, offers_run, handles_run, joins_run, claims_link_run}
+use Rattle.rina_flood.proofs.Members.{start_run, goes_on_run, loses_run, makes_run, takes_run, offers_run, joins_run, claims_link_run}
+use Rattle.rina_flood.proofs.Handled.{handles_run, passes_run}
+use Rattle.rina_flood.proofs.Posted.{draws_run, posts_run}
 use Rattle.rina_flood.proofs.Claiming.{quiet_claims}
 use Rattle.rina_flood.proofs.Quiet.{quiet_agree}
 use Rattle.rina_flood.proofs.laws.members_are_a_network.Goals as goal
@@ -23,6 +25,15 @@ returns-clause-offers c = offers_run
 
 pub returns-clause-handles : goal.returns-clause-handles
 returns-clause-handles c = handles_run
+
+pub returns-clause-passes : goal.returns-clause-passes
+returns-clause-passes c = passes_run
+
+pub returns-clause-posts : goal.returns-clause-posts
+returns-clause-posts c = posts_run
+
+pub returns-clause-draws : goal.returns-clause-draws
+returns-clause-draws c = draws_run
 
 pub returns-clause-joins : goal.returns-clause-joins
 returns-clause-joins c = joins_run

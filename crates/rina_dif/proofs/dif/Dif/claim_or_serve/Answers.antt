@@ -5,7 +5,7 @@ use Rattle.rina_iface.specs.Free.{FreesAsSeen}
 use Rattle.rina_data.specs.declared.step.ClockStep.{ClockStep}
 use Rattle.rina_data.specs.declared.step.StepError.{StepError}
 use Rattle.rina_dif.specs.declared.dif.Dif.{Dif}
-use Rattle.rina_dif.specs.Changing.{ManagesStep}
+use Rattle.rina_dif.specs.FlowEnds.{ManagesStep}
 use Rattle.rina_dif.specs.Claiming.{ClaimsHere}
 use Rattle.rina_dif.specs.Clocking.{ClaimsOrServes, ServesAnyHere}
 use Rattle.rina_dif.specs.Elsewhere.{ChangesOnly, MayClock}

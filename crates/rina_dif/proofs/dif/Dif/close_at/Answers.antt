@@ -11,7 +11,7 @@ use Rattle.rina_dif.specs.Elsewhere.{ChangesProcess, WhenOk}
 use Rattle.rina_dif.specs.Freeing.{FreesHere}
 use Rattle.rina_dif.proofs.Elsewhere.{ledger_leaves, stopped_when}
 use Rattle.rina_dif.proofs.Freed.{closed_used, closes_at, never_homeless}
-use Rattle.rina_dif.proofs.Showing.{ends_flow, frees_managed, frees_shown, objects_agents}
+use Rattle.rina_dif.proofs.Showing.{ends_flow, frees_shown, objects_agents}
 use Rattle.rina_dif.proofs.dif.Dif.close_at.Goals as goal
 
 pub unreachable-requires : goal.unreachable-requires
@@ -45,9 +45,11 @@ returns-clause-does c = λ lines below h.
 
 pub returns-clause-manages : goal.returns-clause-manages
 returns-clause-manages c =
-    let d = c.args.self.now in
-    frees_managed d c.in-Some.home c.args.at c.args.node c.remove.new.self c.requires.at c.requires.end (sym c.place_at_node.ensures.place ∙ c.in-Some.is)
-    (ends_flow d c.in-Some.home c.args.at c.as_slice.result.now c.remove.new.self (λ k is. c.as_slice.ensures ∙ c.in_ok-name.ensures k is) c.remove.ensures)
+    let d = c.args.self.now in (
+      c.in-Some.home,
+      sym c.place_at_node.ensures.place ∙ c.in-Some.is,
+      ends_flow d c.in-Some.home c.args.at c.as_slice.result.now c.remove.new.self (λ k is. c.as_slice.ensures ∙ c.in_ok-name.ensures k is) c.remove.ensures,
+    )
 
 pub returns-clause-leaves : goal.returns-clause-leaves
 returns-clause-leaves c =

@@ -2,11 +2,10 @@ use Rattle.std.proofs.Common.{subst, Some, inl}
 use Rattle.std.proofs.lemmas.Result.{err_from_is_err_and}
 use Rattle.rina_flows.specs.declared.due.Item.{Item}
 use Rattle.rina_dif.specs.Clocking.{IsTurn}
-use Rattle.rina_dif.proofs.Clocked.{does_ack, does_again, does_give_up, does_gone, gave_up_managed, never_kept, never_silent, none_due, same_holds, steps_err, turn_home}
+use Rattle.rina_dif.proofs.Clocked.{does_ack, does_again, does_give_up, does_gone, gave_up_managed, never_kept, never_silent, none_due, same_holds, steps_err, told_managed, turn_home}
 use Rattle.rina_flows.specs.declared.due.Item.TheVariants.{Ack, Gone}
 use Rattle.rina_dif.proofs.Elsewhere.{again_of, clock_failed, clocked_alone, gives_up_of, none_changed, turn_of}
 use Rattle.rina_dif.proofs.FlowIds.{flow_cep}
-use Rattle.rina_dif.proofs.Lapsed.{conn_there}
 use Rattle.rina_dif.proofs.dif.Dif.do_next.Goals as goal
 
 pub returns-in_default-clause-does : goal.returns-in_default-clause-does
@@ -26,7 +25,7 @@ give_up_at-requires-clause-here c = turn_home _ c.args.self.now c.requires.stand
 pub returns-in_err-num-in-GiveUp-clause-does : goal.returns-in_err-num-in-GiveUp-clause-does
 returns-in_err-num-in-GiveUp-clause-does c = λ lines below h.
     let err = err_from_is_err_and c.from_residual-in_err-num-in-GiveUp.result c.from_residual-in_err-num-in-GiveUp.ensures.1 in
-    steps_err c.args.self.now lines below c.args.node c.from_residual-in_err-num-in-GiveUp.result err.0 c.give_up_at.new.self err.2 err.1 (same_holds c.args.self.now lines below c.give_up_at.new.self (c.in_err-num-in-GiveUp.ensures.does lines below h) h)
+    steps_err c.args.self.now lines below c.args.node c.from_residual-in_err-num-in-GiveUp.result err.0 c.give_up_at.new.self err.2 err.1 (c.in_err-num-in-GiveUp.ensures.does lines below h)
 
 pub unreachable-requires : goal.unreachable-requires
 unreachable-requires c =
@@ -84,7 +83,7 @@ returns-in_err-forget_at-in-Gone-clause-leaves c =
 pub returns-in_err-num-in-GiveUp-clause-leaves : goal.returns-in_err-num-in-GiveUp-clause-leaves
 returns-in_err-num-in-GiveUp-clause-leaves c =
     let err = err_from_is_err_and c.from_residual-in_err-num-in-GiveUp.result c.from_residual-in_err-num-in-GiveUp.ensures.1 in
-    clock_failed c.from_residual-in_err-num-in-GiveUp.result err.0 c.args.self.now c.give_up_at.new.self (Some c.args.at) err.1 (none_changed (Some c.args.at) c.args.self.now c.give_up_at.new.self (c.in_err-num-in-GiveUp.ensures.does c.requires.stands.1.0 c.requires.stands.0 c.requires.stands.1.1))
+    clock_failed c.from_residual-in_err-num-in-GiveUp.result err.0 c.args.self.now c.give_up_at.new.self (Some c.args.at) err.1 c.in_err-num-in-GiveUp.ensures.leaves
 
 pub returns-in_err-acknowledge_at-in-Ack-clause-leaves : goal.returns-in_err-acknowledge_at-in-Ack-clause-leaves
 returns-in_err-acknowledge_at-in-Ack-clause-leaves c =
@@ -136,4 +135,13 @@ returns-in-Some-2-clause-manages c = λ _seen.
     let here = turn_home _ d st.1.0 c.args.node c.args.at _ _ c.requires.home (c.in-Some.ensures st.1.0 st.0 st.1.1) in
     let gave = rw c.in-Some-2.is at (c.in_ok-num-in-GiveUp.ensures.does st.1.0 st.0 st.1.1) in
     let ends = rw c.in-Some-2.is at c.in_ok-num-in-GiveUp.ensures.manages in
-    inl (flow_cep d st.1.0 st.0 turn.place c.in-Some-2.num.cep here.end gave.given_up.ids st.1.1 here.is_end gave.given_up.ids_are here.allocated gave.cep, gave_up_managed d st.1.0 st.0 c.args.at turn.place c.in-Some-2.num c.give_up_at.new.self c.give_up_at.new.self.managements (conn_there d st.0 c.args.at turn.place st.1 here) gave ends)
+    inl (flow_cep d st.1.0 st.0 turn.place c.in-Some-2.num.cep here.end gave.given_up.ids st.1.1 here.is_end gave.given_up.ids_are here.allocated gave.cep, gave_up_managed d st.1.0 st.0 c.args.at turn.place c.in-Some-2.num c.give_up_at.new.self c.give_up_at.new.self.managements here gave ends)
+
+pub returns-in_err-num-in-GiveUp-clause-manages : goal.returns-in_err-num-in-GiveUp-clause-manages
+returns-in_err-num-in-GiveUp-clause-manages c = λ seen.
+    let d = c.args.self.now in
+    let st = c.requires.stands in
+    let turn = c.in-Some.field-0.turn in
+    let here = turn_home _ d st.1.0 c.args.node c.args.at _ _ c.requires.home (c.in-Some.ensures st.1.0 st.0 st.1.1) in
+    let err = err_from_is_err_and c.from_residual-in_err-num-in-GiveUp.result c.from_residual-in_err-num-in-GiveUp.ensures.1 in
+    told_managed d seen c.args.at turn.place c.args.node c.from_residual-in_err-num-in-GiveUp.result err.0 c.give_up_at.new.self.managements here c.in_err-num-in-GiveUp.ensures.manages err.2 err.1

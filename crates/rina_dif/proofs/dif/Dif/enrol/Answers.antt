@@ -8,11 +8,20 @@ use Rattle.rina_dif.proofs.dif.Dif.enrol.Goals as goal
 pub returns-then-self-clause-goes_on : goal.returns-then-self-clause-goes_on
 returns-then-self-clause-goes_on g c = (no_step c.args.self.now (g.F.Facility.seen c.args.below.now) c.requires.stands).goes_on
 
+pub returns-then-self-clause-silent : goal.returns-then-self-clause-silent
+returns-then-self-clause-silent g c = (no_step c.args.self.now (g.F.Facility.seen c.args.below.now) c.requires.stands).silent
+
 pub returns-in_default-clause-goes_on : goal.returns-in_default-clause-goes_on
 returns-in_default-clause-goes_on g c = (no_step c.args.self.now (g.F.Facility.seen c.args.below.now) c.requires.stands).goes_on
 
+pub returns-in_default-clause-silent : goal.returns-in_default-clause-silent
+returns-in_default-clause-silent g c = (no_step c.args.self.now (g.F.Facility.seen c.args.below.now) c.requires.stands).silent
+
 pub returns-in_default-2-clause-goes_on : goal.returns-in_default-2-clause-goes_on
 returns-in_default-2-clause-goes_on g c = (no_step c.args.self.now (g.F.Facility.seen c.args.below.now) c.requires.stands).goes_on
+
+pub returns-in_default-2-clause-silent : goal.returns-in_default-2-clause-silent
+returns-in_default-2-clause-silent g c = (no_step c.args.self.now (g.F.Facility.seen c.args.below.now) c.requires.stands).silent
 
 pub returns-clause-does : goal.returns-clause-does
 returns-clause-does g c = λ alive.

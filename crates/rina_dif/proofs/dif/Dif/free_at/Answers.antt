@@ -17,7 +17,7 @@ returns-in_default-state-clause-does c =
 pub returns-in-Allocated-clause-leaves : goal.returns-in-Allocated-clause-leaves
 returns-in-Allocated-clause-leaves c = λ end is.
     let d = c.args.self.now in
-    subst (λ (e : End). ChangesOnly (λ i. WhenOk c.close_at.result (i ≡ c.args.at)) (home_of d e.port.node) d c.close_at.new.self) (same_end (slice_get d.flows.journal.ends c.args.at) c.in-Some.end.now end c.in-Some.ensures is) c.close_at.ensures.leaves
+    subst (λ (e : End). ChangesOnly (λ i. WhenOk c.give_up_flow.result (i ≡ c.args.at)) (home_of d e.port.node) d c.give_up_flow.new.self) (same_end (slice_get d.flows.journal.ends c.args.at) c.in-Some.end.now end c.in-Some.ensures is) c.give_up_flow.ensures.leaves
 
 pub returns-in_default-state-clause-leaves : goal.returns-in_default-state-clause-leaves
 returns-in_default-state-clause-leaves c = λ end is. withdrawn_at c.args.self.now c.args.at c.freed.result c.set_state.new.self (home_of c.args.self.now end.port.node) c.requires.at c.set_state.ensures

@@ -1,6 +1,9 @@
 -- The member handled what waits at the end that takes the piece, and what the piece makes whole there.
+use Rattle.std.proofs.Common.{Option, subst, sym}
 use Rattle.rina_base.specs.Pdus.{pdu_of}
 use Rattle.rina_data.specs.Hops.{hop_of}
+use Rattle.rina_member.specs.declared.management.Management.{Management}
+use Rattle.rina_dif.specs.Handling.{HandlesAhead}
 use Rattle.rina_dif.proofs.Learned.{taken_at}
 use Rattle.rina_dif.proofs.OnLinks.{link_within}
 use Rattle.rina_dif.proofs.Unlinked.{agent_within}
@@ -17,3 +20,11 @@ management_ahead-requires-clause-conn c = (link_within c.args.self.now.connectio
 
 pub management_ahead-requires-clause-taken : goal.management_ahead-requires-clause-taken
 management_ahead-requires-clause-taken c = taken_at c.args.self.now c.in-Some.place c.requires.stands
+
+pub returns : goal.returns
+returns c = record {
+  its = pdu_of c.in-Some.pdu;
+  takes = c.in-Some.ensures;
+  handles = subst (λ (o : Option Management). HandlesAhead c.args.self.now c.args.at c.in-Some.place c.args.number (pdu_of c.in-Some.pdu) o) (sym c.in_ok-change.ensures.told) c.in_ok-after.ensures;
+  changes = c.in_ok-change.ensures.changes;
+}

@@ -12,7 +12,7 @@ returns-in_default-clause-does g c = λ lines h. takes_nowhere c.args.self.now l
 
 pub returns-clause-does : goal.returns-clause-does
 returns-clause-does g c = λ lines h.
-    takes_home c.args.self.now lines (g.F.Facility.seen c.args.below.now) c.args.node c.args.link c.in-Some.at c.in_step_at-step.result c.remember_memory_failure.result c.in_step_at-step.new.self c.remember_memory_failure.new.failed (g.F.Facility.seen c.in_step_at-step.new.below) (c.in_step_at-step.ensures.failed ∙ c.if-self.false) (sym c.place_at_node.ensures.place ∙ c.in-Some.is) c.remember_memory_failure.ensures.same c.remember_memory_failure.ensures.noted (c.in_step_at-step.ensures.does lines h)
+    takes_home c.args.self.now lines (g.F.Facility.seen c.args.below.now) c.args.node c.args.link c.in-Some.at c.in_step_at-step.result c.remember_memory_failure.result c.in_step_at-step.new.self c.remember_memory_failure.new.failed (g.F.Facility.seen c.in_step_at-step.new.below) (c.in_step_at-step.ensures.failed ∙ c.if-self.false) (sym c.place_at_node.ensures.place ∙ c.in-Some.is) c.remember_memory_failure.ensures.same (c.in_step_at-step.ensures.does lines h)
 
 pub returns-then-self-clause-goes_on : goal.returns-then-self-clause-goes_on
 returns-then-self-clause-goes_on g c = (no_step c.args.self.now (g.F.Facility.seen c.args.below.now) c.requires.stands).goes_on

@@ -22,7 +22,7 @@ returns-clause-enrolled c = nodes_are c.args.is_static c.args.settings.members c
 
 pub returns-clause-holds : goal.returns-clause-holds
 returns-clause-holds c = λ below kept can members unfixed clock free.
-    let d : Dif = record { settings = c.args.settings; clock = c.args.clock; processes = c.in_ok-processes.processes; managements = c.in_ok-managements.managements; laid = c.none-laid.result; connections = c.none-connections.result; flows = c.new-2.result; ids = c.in_ok-ids.ids; waiting = c.new-3.result; names = c.new-4.result; enrolled = c.in_ok-enrolled.enrolled; failed = false } in
+    let d : Dif = record { settings = c.args.settings; clock = c.args.clock; processes = c.in_ok-processes.processes; managements = c.in_ok-managements.managements; laid = c.none-laid.result; connections = c.none-connections.result; flows = c.new-2.result; ids = c.in_ok-ids.ids; waiting = c.new-3.result; asks = c.new-4.result; names = c.new-5.result; enrolled = c.in_ok-enrolled.enrolled; failed = false } in
     let started = same_started c.args.is_static c.as_slice.result.now c.args.settings.cubes c.as_slice-members.result.now c.args.settings.members c.as_slice-2.result.now c.none-laid.result.links c.as_slice-3.result.now c.as_slice-3.result.now true c.in_ok-processes.processes c.in_ok-managements.managements c.as_slice.ensures c.as_slice-members.ensures c.as_slice-2.ensures refl c.in_ok-managements.ensures in
     let static : c.none-laid.result.is_static ≡ c.args.is_static = ap (λ (l : Layout). l.is_static) c.none-laid.ensures in
     let begun : AreStarted c.none-laid.result.is_static c.args.settings.cubes c.args.settings.members c.none-laid.result.links c.as_slice-3.result.now true (length c.args.settings.members) c.in_ok-processes.processes c.in_ok-managements.managements = subst (λ (b : Bool). AreStarted b c.args.settings.cubes c.args.settings.members c.none-laid.result.links c.as_slice-3.result.now true (length c.args.settings.members) c.in_ok-processes.processes c.in_ok-managements.managements) (sym static) started in

@@ -26,8 +26,8 @@ use Rattle.rina_dif.proofs.Sound.{are_members, is_config}
 use Rattle.rina_dif.proofs.Started.{made_managed}
 use Rattle.rina_dif.proofs.dif.Dif.of_plan.Goals as goal
 
-laid_as : (l : Layout) (dif : DifPlan) (plans : List LinkPlan) → l ≡ record { is_static = dif.is_static; links = plans } → plans ≡ dif.links → l ≡ record { is_static = dif.is_static; links = dif.links }
-laid_as l dif plans is same = is ∙ ap (λ (ls : List LinkPlan). record { is_static = dif.is_static; links = ls }) same
+laid_as : (l : Layout) (dif : DifPlan) (plans : List LinkPlan) → l ≡ record { is_static = dif.is_static; links = plans; wait = dif.wait } → plans ≡ dif.links → l ≡ record { is_static = dif.is_static; links = dif.links; wait = dif.wait }
+laid_as l dif plans is same = is ∙ ap (λ (ls : List LinkPlan). record { is_static = dif.is_static; links = ls; wait = dif.wait }) same
 
 pub lay_links-requires-clause-takes : goal.lay_links-requires-clause-takes
 lay_links-requires-clause-takes g c = made_takes c.args.plan.now c.args.at c.in-Some.dif.now c.in_ok-made.made.settings (g.F.Facility.seen c.args.below.now) c.in-Some.ensures (c.in_ok-made.ensures.settings ∙ c.in_ok-settings.ensures) c.requires.can

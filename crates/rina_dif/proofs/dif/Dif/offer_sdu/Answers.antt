@@ -43,7 +43,7 @@ returns-clause-does c =
     let pdus = c.unnamed-pdus.ensures ∙ ap (map unnamed) c.into_vec.ensures in
     let left = c.at.result.now.sending.form.cube.mpl in
     let puts = subst (λ (xs : List Pdu). Puts 0 c.args.number (queued left c.args.self.now.clock xs) c.args.at c.args.self.now.processes c.put.new.self) pdus c.put.ensures in
-    offers_done c.args.self.now c.args.at c.args.place c.args.number c.args.sdu.now c.at.result.now c.in-Ok.made c.offer.new.self c.put.new.self c.sent.new.self c.requires.tell c.requires.clock c.requires.ready c.at.ensures c.in-Ok.ensures.offers puts c.sent.ensures
+    offers_done c.args.self.now c.args.at c.args.place c.args.number c.args.sdu.now c.at.result.now c.in-Ok.made c.offer.new.self c.put.new.self c.sent.new.self c.requires.tell c.requires.ready c.at.ensures c.in-Ok.ensures.offers puts c.sent.ensures
 
 pub returns-clause-leaves : goal.returns-clause-leaves
 returns-clause-leaves c =

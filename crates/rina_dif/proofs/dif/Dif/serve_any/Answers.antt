@@ -7,7 +7,7 @@ use Rattle.rina_dif.specs.declared.dif.Dif.{Dif}
 use Rattle.rina_dif.specs.Clocking.{ServesHere}
 use Rattle.rina_dif.specs.Holding.{Holds, Stands}
 use Rattle.rina_dif.specs.Messaging.{OffersAmong}
-use Rattle.rina_dif.proofs.MessageSteps.{idle_below, idle_same, manages_none, message_manages, message_serves, none_serves, serves_more, serves_none, stays_none, tell_neighbours}
+use Rattle.rina_dif.proofs.MessageSteps.{idle_below, idle_same, manages_none, message_manages, message_serves, none_serves, serves_more, serves_none, stays_none, tell_short}
 use Rattle.rina_dif.proofs.dif.Dif.serve_any.Goals as goal
 
 pub offer_message-requires-clause-stands : goal.offer_message-requires-clause-stands
@@ -23,7 +23,7 @@ offer_message-requires-clause-tell g c =
     let d = c.args.self.now in
     let below = g.F.Facility.seen c.args.below.now in
     let same : c.serve_next.new.self ≡ d = idle_same c.in_ok-done.done (c.serve_next.new.self ≡ d) c.in-Idle.is c.in_ok-done.ensures.idle in
-    tell_neighbours c.serve_next.new.self below (subst (λ (z : Dif). Stands z below) (sym same) c.requires.stands)
+    tell_short c.serve_next.new.self below (subst (λ (z : Dif). Stands z below) (sym same) c.requires.stands)
 
 pub returns-in-Some-clause-does : goal.returns-in-Some-clause-does
 returns-in-Some-clause-does g c = λ lines h.
