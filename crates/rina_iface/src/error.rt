@@ -48,7 +48,7 @@ pub enum AllocateError {
     Busy { port: Port },
     /// The member would need `need` invoke ids or version counts, and has `left`.
     CountSpent { need: u32, left: u32 },
-    /// Flows over DIFs cannot be asked for yet.
+    /// No facility refuses so: a word that notes may still have.
     Unbuilt,
 }
 

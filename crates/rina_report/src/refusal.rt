@@ -80,6 +80,6 @@ pub enum Refusal {
     NoRank,
     /// The application is an IPC process.
     NotYours,
-    /// Flows over DIFs cannot be asked for yet.
+    /// No facility refuses so: a word that notes may still have.
     Unbuilt,
 }
