@@ -32,6 +32,8 @@ mod examples_t_to_z;
 #[cfg(test)]
 mod flat_rows;
 #[cfg(test)]
+mod id_rows;
+#[cfg(test)]
 mod kinds_rows;
 #[cfg(test)]
 mod member_rows;

@@ -11,6 +11,7 @@ use crate::examples_m_to_q::EXAMPLES_M_TO_Q;
 use crate::examples_r_to_s::EXAMPLES_R_TO_S;
 use crate::examples_t_to_z::EXAMPLES_T_TO_Z;
 use crate::flat_rows::FLAT_ROWS;
+use crate::id_rows::ID_ROWS;
 use crate::kinds_rows::KINDS_ROWS;
 use crate::member_rows::MEMBER_ROWS;
 use crate::spent_rows::SPENT_ROWS;
@@ -205,6 +206,12 @@ fn the_rows_of_members_write_their_outputs(rt: HostRuntime) -> Result<(), Fail> 
 #[test]
 fn the_rows_of_asked_flows_write_their_outputs(rt: HostRuntime) -> Result<(), Fail> {
     assert_eq!(rt; other_of_all(rt.alloc(), ALLOC_ROWS)?, None);
+    Ok(())
+}
+
+#[test]
+fn the_row_of_all_ids_writes_its_output(rt: HostRuntime) -> Result<(), Fail> {
+    assert_eq!(rt; other_of_all(rt.alloc(), ID_ROWS)?, None);
     Ok(())
 }
 
