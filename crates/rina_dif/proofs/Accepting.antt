@@ -34,7 +34,7 @@ use Rattle.rina_dif.specs.declared.dif.Dif.{Dif}
 use Rattle.rina_dif.specs.declared.far_ends.Grounds.{Grounds}
 use Rattle.rina_dif.specs.Allocating.{spent_ids}
 use Rattle.rina_dif.specs.Elsewhere.{enrolled_home}
-use Rattle.rina_dif.specs.FarMaking.{Accepts, AcceptsAt, AcceptsOr, Answers, AnswersBy, CanMakeFar, FindsAsker, FitsNext, HandlesAsk, HasMadeFar, IsAskerOf, IsGrounds, MayAccept, MayHaveMade, SendsAnswer, answer_by, answer_told, is_aged_by, is_here_by, is_yes, next_cep, unless_spent}
+use Rattle.rina_dif.specs.FarMaking.{Accepts, AcceptsAt, AcceptsOr, AcceptsOrNot, Answers, AnswersBy, CanMakeFar, Decides, FindsAsker, FindsJoinable, FitsNext, HandlesAsk, HasMadeFar, IsAskerOf, IsGrounds, MayAccept, MayHaveMade, SendsAnswer, answer_by, answer_told, is_aged_by, is_here_by, is_yes, next_cep, unless_spent}
 use Rattle.rina_dif.specs.Freeing.{IsKept}
 use Rattle.rina_dif.specs.Holding.{Holds}
 use Rattle.rina_dif.specs.Posting.{message_of, posted, posts}
@@ -145,7 +145,9 @@ accepted d d1 d2 lines below at place from invoke ask answer may (Ok done) asker
       stands = may.stands;
       does = inl (subst (λ (m : Member). Accepts d lines below at may.member.addr m.node from invoke ask (record d1 { managements = ms })) (sym member_is) accepts);
     })
-accepted d d1 d2 lines below at place from invoke ask answer may (Err e) asker made same settings sent err stays = inr (subst (MayHaveMade d lines below at) (sym err) (record { place = place; made = made }))
+accepted d d1 d2 lines below at place from invoke ask answer may (Err e) asker made same settings sent err stays =
+    let member_is = same_Some may.member made.member (sym may.stands ∙ made.stands) in
+    inr (subst (MayHaveMade d lines below at from ask) (sym err) (record { place = place; made = made; asker = subst (λ (m : Member). IsAskerOf d place m.addr from ask) member_is asker }))
 
 -- The whole answer
 
@@ -165,7 +167,7 @@ may_so d at ask g m answers.NotHere agrees is enrolled grounds told = absurd (fa
 may_so d at ask g m (answers.NoIds used) agrees is enrolled grounds told = absurd (false≢true agrees)
 
 module _ (d d' : Dif) (lines : List Direction) (below : Seen) (at from invoke : ℕ) (ask : FlowAsk) (g : Grounds) (m : Member) (is : slice_get d.settings.members at ≡ Some m) (enrolled : enrolled_home d m.node ≡ Some at) (grounds : IsGrounds d at m.node ask g) where
-  by_yes : (answer : FlowAnswer) → is_yes answer ≡ true → (Accepts d lines below at m.addr m.node from invoke ask d' ⊎ ((d' ≡ d) × ((place : ℕ) → IsAskerOf d place m.addr from ask → FitsNext d at → ⊥))) → AnswersBy answer d lines below at m.addr m.node from invoke ask d'
+  by_yes : (answer : FlowAnswer) → is_yes answer ≡ true → AcceptsOrNot d lines below at m.addr m.node from invoke ask d' → AnswersBy answer d lines below at m.addr m.node from invoke ask d'
   by_yes (answers.Yes cep its) agrees does = does
   by_yes (answers.Denied rule) agrees does = absurd (false≢true agrees)
   by_yes answers.NotHere agrees does = absurd (false≢true agrees)
@@ -177,30 +179,24 @@ module _ (d d' : Dif) (lines : List Direction) (below : Seen) (at from invoke : 
   by_no answers.NotHere denies does = does
   by_no (answers.NoIds used) denies does = does
 
+  decides : (answer : FlowAnswer) → answer_by g ask.scep ≡ Some answer → Decides d at ask
+  decides answer told = record { member = m; stands = is; enrolled = enrolled; grounds = g; are = grounds; answer = answer; told = told }
+
   pub handles_yes : (answer : FlowAnswer) (r : Result (Unit {0}) Memory) → is_yes answer ≡ true → answer_by g ask.scep ≡ Some answer → AcceptsOr d lines below at from invoke ask r d' → HandlesAsk d lines below at from invoke ask r d'
+  unfolding decides
   handles_yes answer (Ok done) agrees told a =
       let same : a.member ≡ m = same_Some a.member m (sym a.stands ∙ is) in
       inl (record {
-        member = m;
-        stands = is;
-        enrolled = enrolled;
-        grounds = g;
-        are = grounds;
-        answer = answer;
-        told = told;
-        does = by_yes answer agrees (subst (λ (k : Member). Accepts d lines below at k.addr k.node from invoke ask d' ⊎ ((d' ≡ d) × ((place : ℕ) → IsAskerOf d place k.addr from ask → FitsNext d at → ⊥))) same a.does);
+        decides = decides answer told;
+        does = by_yes answer agrees (subst (λ (k : Member). AcceptsOrNot d lines below at k.addr k.node from invoke ask d') same a.does);
       })
-  handles_yes answer (Err e) agrees told a = a
+  handles_yes answer (Err e) agrees told (inl kept) = inl kept
+  handles_yes answer (Err e) agrees told (inr made) = inr (decides answer told, agrees, made)
 
   pub handles_no : (answer : FlowAnswer) (r : Result (Unit {0}) Memory) → is_yes answer ≡ false → answer_by g ask.scep ≡ Some answer → OnOk r (SendsAnswer d at from invoke answer d') → OnErr r (d' ≡ d) → Holds d lines below → Holds d' lines below → HandlesAsk d lines below at from invoke ask r d'
+  unfolding decides
   handles_no answer (Ok done) denies told sent err old holds = inl (record {
-    member = m;
-    stands = is;
-    enrolled = enrolled;
-    grounds = g;
-    are = grounds;
-    answer = answer;
-    told = told;
+    decides = decides answer told;
     does = by_no answer denies (record { only = sent m is; holds = holds });
   })
   handles_no answer (Err e) denies told sent err old holds = inl (record { same = ap seen_of err; holds = holds })
@@ -208,27 +204,20 @@ module _ (d d' : Dif) (lines : List Direction) (below : Seen) (at from invoke : 
 -- What the call of an answer of yes leaves
 
 module _ (d : Dif) (at from : ℕ) (ask : FlowAsk) (answer : FlowAnswer) (may : MayAccept d at ask answer) (own : ℕ) (own_is : own ≡ may.member.addr) where
-  -- no asker's end waits
-  pub not_found : (lines : List Direction) (below : Seen) (invoke : ℕ) → FindsAsker d own from ask None → AcceptsAt d lines below at from invoke ask d
-  not_found lines below invoke none = record {
+  -- the far end can not be made, which the asker is told
+  pub told_not : (d' : Dif) (lines : List Direction) (below : Seen) (invoke : ℕ) (r : Result (Unit {0}) Memory) → FindsJoinable d at own from ask None → OnOk r (SendsAnswer d at from invoke answers.NotHere d') → OnErr r (d' ≡ d) → Holds d' lines below → AcceptsOr d lines below at from invoke ask r d'
+  told_not d' lines below invoke (Ok done) none sent err holds = record {
     member = may.member;
     stands = may.stands;
-    does = inr (refl, λ place asker fits. none place (subst (λ (a : ℕ). IsAskerOf d place a from ask) (sym own_is) asker));
+    does = inr (subst (λ (a : ℕ). FindsJoinable d at a from ask None) own_is none, record { only = sent may.member may.stands; holds = holds });
   }
-
-  -- no CEP-id fits
-  pub not_fit : (lines : List Direction) (below : Seen) (invoke : ℕ) (b : Bool) → (IsTrue b ↔ FitsNext d at) → b ≡ false → AcceptsAt d lines below at from invoke ask d
-  not_fit lines below invoke b tells not = record {
-    member = may.member;
-    stands = may.stands;
-    does = inr (refl, λ place asker fits. false≢true (sym not ∙ tells.1 fits));
-  }
+  told_not d' lines below invoke (Err e) none sent err holds = inl (record { same = ap seen_of err; holds = holds })
 
   pub its_asker : (place : ℕ) → IsAskerOf d place own from ask → IsAskerOf d place may.member.addr from ask
   its_asker place asker = subst (λ (a : ℕ). IsAskerOf d place a from ask) own_is asker
 
-  pub can_make : (place : ℕ) (b : Bool) → IsAskerOf d place own from ask → (IsTrue b ↔ FitsNext d at) → b ≡ true → CanMakeFar d at place from ask
-  can_make place b asker tells is = record {
+  pub can_make : (place : ℕ) → FindsJoinable d at own from ask (Some place) → CanMakeFar d at place from ask
+  can_make place found = record {
     member = may.member;
     stands = may.stands;
     enrolled = may.enrolled;
@@ -236,8 +225,8 @@ module _ (d : Dif) (at from : ℕ) (ask : FlowAsk) (answer : FlowAnswer) (may : 
     is_cube = may.is_cube;
     young = may.young;
     room = may.room;
-    fits = tells.0 is;
-    asker = its_asker place asker;
+    fits = found.1;
+    asker = its_asker place found.0;
   }
 
 pub accept_err : (d d1 : Dif) (lines : List Direction) (below : Seen) (at from invoke : ℕ) (ask : FlowAsk) (r : Result (Unit {0}) Memory) (e : Memory) → r ≡ Err e → IsKept d lines below d1 → AcceptsOr d lines below at from invoke ask r d1

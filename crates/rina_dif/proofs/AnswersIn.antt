@@ -12,6 +12,7 @@ use Rattle.rina_data.specs.declared.settings.Member.{Member}
 use Rattle.rina_iface.specs.declared.ends.End.{End}
 use Rattle.rina_iface.specs.declared.state.PortState.TheVariants.{Pending, Refused}
 use Rattle.rina_iface.specs.declared.state.Why.{Why}
+use Rattle.rina_iface.specs.declared.state.Why.TheVariants.{NotHere}
 use Rattle.rina_iface.specs.Journal.{At}
 use Rattle.rina_iface.specs.Seen.{Seen}
 use Rattle.rina_law.specs.Direction.{Direction}
@@ -80,9 +81,9 @@ module _ (d : Dif) (place from cep : ℕ) (end : End) (is : At d.flows.journal.e
   pub stands_far : (far_at : ℕ) → IsFarEndAt d far_at end.flow from cep → StandsFar d place far_at
   stands_far far_at far = record { own = from; cep = cep; far = far_of far_at far }
 
-  -- nothing happens where it does not stand
-  pub takes_none : (lines : List Direction) (below : Seen) (at which : ℕ) (r : Result (Unit {0}) Memory) → FindsFarEnd d end.flow from cep None → TakesYes d lines below at from cep which place r d
-  takes_none lines below at which r none = inl (no_far none, refl)
+  -- where it does not stand the ask is refused
+  pub takes_none : (d1 : Dif) (lines : List Direction) (below : Seen) (at which : ℕ) (r : Result (Unit {0}) Memory) → FindsFarEnd d end.flow from cep None → RefusesAsk d lines below which place NotHere d1 → TakesYes d lines below at from cep which place r d1
+  takes_none d1 lines below at which r none refuses = inl (no_far none, refuses)
 
   -- without memory
   pub takes_err : (d1 : Dif) (lines : List Direction) (below : Seen) (at which far_at : ℕ) (r : Result (Unit {0}) Memory) (e : Memory) → IsFarEndAt d far_at end.flow from cep → r ≡ Err e → IsKept d lines below d1 → d1.asks ≡ d.asks → TakesYes d lines below at from cep which place r d1
@@ -148,17 +149,14 @@ said_whole d d' (Err e) ms ok err = err ∙ sym (ap (λ (z : Dif). record d { ma
 pub refuse_whole : (d d1 : Dif) (asks : Vec WaitingAsk) → d1 ≡ record d { flows = d1.flows; ids = d1.ids } → record d1 { asks = asks } ≡ record d { flows = d1.flows; ids = d1.ids; asks = asks }
 refuse_whole d d1 asks is = ap (λ (z : Dif). record z { asks = asks }) is
 
-pub bind_whole : (d d1 : Dif) (asks : Vec WaitingAsk) → d1 ≡ record d { flows = d1.flows; managements = d1.managements } → record d1 { asks = asks } ≡ record d { flows = d1.flows; asks = asks; managements = d1.managements }
-bind_whole d d1 asks is = ap (λ (z : Dif). record z { asks = asks }) is
+pub bind_whole : (d d1 : Dif) (asks : Vec WaitingAsk) → d1 ≡ record d { flows = d1.flows; managements = d1.managements } → record d1 { asks = asks } ≡ record d { flows = d1.flows; ids = d1.ids; asks = asks; managements = d1.managements }
+bind_whole d d1 asks is = ap (λ (z : Dif). record z { asks = asks }) is ∙ sym (ap (λ (z : Dif). record d { flows = d1.flows; ids = z.ids; asks = asks; managements = d1.managements }) is)
 
-pub kept_whole : (d d1 : Dif) → d1 ≡ record d { flows = d1.flows; managements = d1.managements } → d1 ≡ record d { flows = d1.flows; asks = d1.asks; managements = d1.managements }
-kept_whole d d1 is = is ∙ sym (ap (λ (z : Dif). record d { flows = d1.flows; asks = z.asks; managements = d1.managements }) is)
+pub kept_whole : (d d1 : Dif) → d1 ≡ record d { flows = d1.flows; managements = d1.managements } → d1 ≡ record d { flows = d1.flows; ids = d1.ids; asks = d1.asks; managements = d1.managements }
+kept_whole d d1 is = is ∙ sym (ap (λ (z : Dif). record d { flows = d1.flows; ids = z.ids; asks = z.asks; managements = d1.managements }) is)
 
 pub whole_refused : (d d1 : Dif) → d1 ≡ record d { flows = d1.flows; ids = d1.ids; asks = d1.asks } → d1 ≡ record d { flows = d1.flows; ids = d1.ids; asks = d1.asks; managements = d1.managements }
 whole_refused d d1 is = is ∙ sym (ap (λ (z : Dif). record d { flows = d1.flows; ids = d1.ids; asks = d1.asks; managements = z.managements }) is)
-
-pub whole_yes : (d d1 : Dif) → d1 ≡ record d { flows = d1.flows; asks = d1.asks; managements = d1.managements } → d1 ≡ record d { flows = d1.flows; ids = d1.ids; asks = d1.asks; managements = d1.managements }
-whole_yes d d1 is = is ∙ sym (ap (λ (z : Dif). record d { flows = d1.flows; ids = z.ids; asks = d1.asks; managements = d1.managements }) is)
 
 pub whole_away : (d d1 : Dif) → d1 ≡ record d { managements = d1.managements } → d1 ≡ record d { flows = d1.flows; ids = d1.ids; asks = d1.asks; managements = d1.managements }
 whole_away d d1 is = is ∙ sym (ap (λ (z : Dif). record d { flows = z.flows; ids = z.ids; asks = z.asks; managements = d1.managements }) is)

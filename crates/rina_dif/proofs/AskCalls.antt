@@ -32,7 +32,7 @@ noted : (d : Dif) (lines : List Direction) (below : Seen) (failed : Bool) → d.
 noted d lines below failed alive h = record { tied = h.tied; standing = h.standing; carrying = h.carrying; numbered = h.numbered; accounted = h.accounted; caused = h.caused; written_off = h.written_off; housed = h.housed; managed = h.managed; enrolled = h.enrolled; connected = h.connected; flooded = λ same. h.flooded alive }
 
 noted_as : (refusal : Option AllocateError) (d : Dif) (lines : List Direction) (below : Seen) (ask : Ask) (r : Result Port AllocateError) (d' : Dif) (failed : Bool) → d'.failed ≡ false → AsksAs refusal d lines below ask r d' → AsksAs refusal d lines below ask r (record d' { failed = failed })
-noted_as refusal d lines below ask (Ok port) d' failed alive x = (let a = x.1 in (x.0, record { lines' = a.lines'; cube = a.cube; meets = a.meets; peer = a.peer; asked = a.asked; port_is = a.port_is; holds = noted d' a.lines' below failed alive a.holds }))
+noted_as refusal d lines below ask (Ok port) d' failed alive x = (let a = x.1 in (x.0, record { lines' = a.lines'; cube = a.cube; meets = a.meets; peer = a.peer; known = a.known; asked = a.asked; port_is = a.port_is; holds = noted d' a.lines' below failed alive a.holds }))
 noted_as refusal d lines below ask (Err Memory) d' failed alive x = (x.0, noted d' lines below failed alive x.1)
 noted_as refusal d lines below ask (Err e) d' failed alive x = (x.0, x.1, noted d' lines below failed alive x.2)
 

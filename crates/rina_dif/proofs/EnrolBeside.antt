@@ -49,7 +49,6 @@ module _ (d : Dif) (below below' : Seen) (node fac peer : ℕ) (kept : AreKept b
   others_by own ask (Err (allocate.NoRoute dst)) is a = same_stand d below below' a.1
   others_by own ask (Err (allocate.Busy port)) is a = same_stand d below below' a.1
   others_by own ask (Err (allocate.CountSpent need left)) is a = same_stand d below below' a.1
-  others_by own ask (Err allocate.Unbuilt) is a = same_stand d below below' a.1
 
   -- `W` is what else is known of the ask
   pub enrol_others : (X : Type 0) (own : Ask → Option AllocateError) (W : Ask → Result Port AllocateError → Type 0) (result : Result (Unit {0}) EnrolError) → (X → below' ≡ below) → AllocatesBelow X (λ ask answer. Allocates (own ask) below ask answer below' × W ask answer) d node fac peer result → OthersStand d below below'

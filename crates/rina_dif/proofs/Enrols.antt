@@ -108,7 +108,6 @@ module _ (ask : Ask) (own : Ask → Option AllocateError) (below below' : Seen) 
   same_below (errors.Lower (allocate.NoRoute dst)) a = a.0.1
   same_below (errors.Lower (allocate.Busy port)) a = a.0.1
   same_below (errors.Lower (allocate.CountSpent need left)) a = a.0.1
-  same_below (errors.Lower allocate.Unbuilt) a = a.0.1
   same_below errors.NoIpc a = absurd a
   same_below (errors.Enrolling link) a = absurd a
   same_below (errors.LinksFull most) a = absurd a
@@ -135,7 +134,6 @@ module _ (d : Dif) (node fac peer i j : ℕ) (joiner member : Member) (at_i : ho
     asked_refused (errors.Lower (allocate.NoRoute dst)) a = record { may = may; asks = record { ask = ask; is_ask = its_ask; asked = a.0 }; same = refl; same_below = a.0.1 }
     asked_refused (errors.Lower (allocate.Busy port)) a = record { may = may; asks = record { ask = ask; is_ask = its_ask; asked = a.0 }; same = refl; same_below = a.0.1 }
     asked_refused (errors.Lower (allocate.CountSpent need left)) a = record { may = may; asks = record { ask = ask; is_ask = its_ask; asked = a.0 }; same = refl; same_below = a.0.1 }
-    asked_refused (errors.Lower allocate.Unbuilt) a = record { may = may; asks = record { ask = ask; is_ask = its_ask; asked = a.0 }; same = refl; same_below = a.0.1 }
     asked_refused errors.NoIpc a = absurd a
     asked_refused (errors.Enrolling link) a = absurd a
     asked_refused (errors.LinksFull most) a = absurd a
@@ -182,7 +180,6 @@ module _ (d : Dif) (node fac peer i j : ℕ) (joiner member : Member) (at_i : ho
   asked_below_err same asks (errors.Lower (allocate.NoRoute dst)) a = (ask, its_ask, a)
   asked_below_err same asks (errors.Lower (allocate.Busy port)) a = (ask, its_ask, a)
   asked_below_err same asks (errors.Lower (allocate.CountSpent need left)) a = (ask, its_ask, a)
-  asked_below_err same asks (errors.Lower allocate.Unbuilt) a = (ask, its_ask, a)
   asked_below_err same asks errors.NoIpc a = absurd a
   asked_below_err same asks (errors.Enrolling link) a = absurd a
   asked_below_err same asks (errors.LinksFull most) a = absurd a

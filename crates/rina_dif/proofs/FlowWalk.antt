@@ -40,7 +40,7 @@ use Rattle.rina_flows.specs.Tied.{ids_of}
 use Rattle.rina_flows.proofs.Elsewhere.{by_adding_one, by_becoming, by_both, by_more, by_set}
 use Rattle.rina_dif.specs.declared.dif.Dif.{Dif}
 use Rattle.rina_dif.specs.Elsewhere.{ChangesOnly, ChangesProcess, IsEndHere, home_of}
-use Rattle.rina_dif.specs.FlowMessages.{ChangesFlowParts, HandlesFlow, HandlesFlows, MayChangeFlow, TakesFlow, TakesFlows, TakesWord}
+use Rattle.rina_dif.specs.FlowMessages.{ChangesFlowParts, HandlesFlow, HandlesFlows, MayChangeFlow, PassesOn, TakesFlow, TakesFlows, TakesWord}
 use Rattle.rina_dif.specs.Holding.{Holds}
 use Rattle.rina_dif.specs.Posting.{posts}
 use Rattle.rina_dif.specs.Routing.{MayReroute}
@@ -215,7 +215,7 @@ posted_on d lines below i m (Ok done) d' other h ok err = record {
   handles = record {
     flow = inl (ap seen_of ok, refl);
     rest = subst (ChangesFlowParts d) (sym ok) refl;
-    on = λ done member is other. ok;
+    on = λ member is other. ok;
     own = λ member is same. absurd (other member is same);
   };
   holds = h;
@@ -225,7 +225,7 @@ posted_on d lines below i m (Err e) d' other h ok err = record {
   handles = record {
     flow = inl (ap seen_of err, refl);
     rest = subst (ChangesFlowParts d) (sym err) (parts_same d);
-    on = λ wrong. absurd cc;
+    on = λ member is other. err;
     own = λ member is same. absurd (other member is same);
   };
   holds = h;
@@ -236,10 +236,15 @@ posted_leaves d o i m (Ok done) d' ok err = (flows_none (IsEndHere d o) d.flows 
 posted_leaves d o i m (Err e) d' ok err = (flows_none (IsEndHere d o) d.flows d'.flows (ap (λ (z : Dif). z.flows) err), none_process o d.processes d'.processes (ap (λ (z : Dif). z.processes) err))
 
 -- one that is for this member is handled by its word
+-- one that is for the member itself is not passed on
+never_on : (d : Dif) (i : ℕ) (m : FlowMessage) (r : Result (Unit {0}) Memory) (d' : Dif) → ((member : Member) → slice_get d.settings.members i ≡ Some member → m.to ≢ member.addr → ⊥) → PassesOn d i m r d'
+never_on d i m (Ok done) d' own = λ member is other. absurd (own member is other)
+never_on d i m (Err e) d' own = λ member is other. absurd (own member is other)
+
 pub own_taken : (d : Dif) (lines : List Direction) (below : Seen) (i : ℕ) (m : FlowMessage) (r : Result (Unit {0}) Memory) (d' : Dif) → ((member : Member) → slice_get d.settings.members i ≡ Some member → m.to ≢ member.addr → ⊥) → ChangesFlowParts d d' → TakesWord d lines below i m.from m.word r d' → TakesFlow d lines below i m r d'
 own_taken d lines below i m r d' own rest t = record {
   lines' = t.lines';
-  handles = record { flow = t.flow; rest = rest; on = λ done member is other. absurd (own member is other); own = λ member is same. t.does };
+  handles = record { flow = t.flow; rest = rest; on = never_on d i m r d' own; own = λ member is same. t.does };
   holds = t.holds;
 }
 

@@ -12,6 +12,7 @@ use Rattle.rina_iface.specs.declared.ends.End.{End}
 use Rattle.rina_iface.specs.declared.state.PortState.{PortState}
 use Rattle.rina_iface.specs.declared.state.PortState.TheVariants.{Allocated, Closed, Failed, Pending, Refused}
 use Rattle.rina_iface.specs.declared.state.Why.{Why}
+use Rattle.rina_iface.specs.declared.state.Why.TheVariants.{NotHere}
 use Rattle.rina_iface.specs.Journal.{At}
 use Rattle.rina_iface.specs.Seen.{Seen}
 use Rattle.rina_law.specs.Direction.{Direction}
@@ -20,7 +21,7 @@ use Rattle.rina_data.specs.Configs.{config_of, member_of}
 use Rattle.rina_data.proofs.Finding.{there}
 use Rattle.rina_dif_law.specs.Answering.{IsFarMade}
 use Rattle.rina_dif.specs.declared.dif.Dif.{Dif}
-use Rattle.rina_dif.specs.AnswersIn.{SaysBack, TakesAnswer, TakesAt, TakesFirst, TurnsAway, given_back, why_of}
+use Rattle.rina_dif.specs.AnswersIn.{RefusesAsk, SaysBack, TakesAnswer, TakesAt, TakesFirst, TurnsAway, given_back, why_of}
 use Rattle.rina_dif.specs.DeletesIn.{ClosesUp, NoneUp, TakesDelete}
 use Rattle.rina_dif.specs.Elsewhere.{home_of}
 use Rattle.rina_dif.specs.FarMaking.{AnswersBy, HandlesAsk}
@@ -44,7 +45,7 @@ made_here d lines below i place member d' lines' h stands m =
 
 answered_by : (a : FlowAnswer) (d : Dif) (lines : List Direction) (below : Seen) (i : ℕ) (member : Member) (from invoke : ℕ) (ask : FlowAsk) (d' : Dif) → Holds d lines below → slice_get d.settings.members i ≡ Some member → AnswersBy a d lines below i member.addr member.node from invoke ask d' → (lines' : List Direction) × MayChangeFlow (seen_of d) lines i (seen_of d') lines' × Holds d' lines' below
 answered_by (answers.Yes cep scep) d lines below i member from invoke ask d' h stands (inl s) = (s.lines', made_here d lines below i s.place member d' s.lines' h stands s.makes, s.holds)
-answered_by (answers.Yes cep scep) d lines below i member from invoke ask d' h stands (inr s) = (lines, seen_same d d' lines i (ap seen_of s.0), subst (λ (z : Dif). Holds z lines below) (sym s.0) h)
+answered_by (answers.Yes cep scep) d lines below i member from invoke ask d' h stands (inr s) = (lines, seen_same d d' lines i (ap seen_of s.1.only), s.1.holds)
 answered_by (answers.Denied rule) d lines below i member from invoke ask d' h stands s = (lines, seen_same d d' lines i (ap seen_of s.only), s.holds)
 answered_by answers.NotHere d lines below i member from invoke ask d' h stands s = (lines, seen_same d d' lines i (ap seen_of s.only), s.holds)
 answered_by (answers.NoIds used) d lines below i member from invoke ask d' h stands s = (lines, seen_same d d' lines i (ap seen_of s.only), s.holds)
@@ -52,23 +53,28 @@ answered_by (answers.NoIds used) d lines below i member from invoke ask d' h sta
 -- a member is asked for a flow
 pub ask_taken : (d : Dif) (lines : List Direction) (below : Seen) (i from invoke : ℕ) (ask : FlowAsk) (r : Result (Unit {0}) Memory) (d' : Dif) → Holds d lines below → HandlesAsk d lines below i from invoke ask r d' → TakesWord d lines below i from (words.Ask invoke ask) r d'
 ask_taken d lines below i from invoke ask (Ok done) d' h (inl a) =
-    let s = answered_by a.answer d lines below i a.member from invoke ask d' h a.stands a.does in
+    let s = answered_by a.decides.answer d lines below i a.decides.member from invoke ask d' h a.decides.stands a.does in
     record { lines' = s.0; flow = s.1; does = inl a; holds = s.2 }
 ask_taken d lines below i from invoke ask (Ok done) d' h (inr same) =
-    record { lines' = lines; flow = seen_same d d' lines i (ap seen_of same); does = inr same; holds = subst (λ (z : Dif). Holds z lines below) (sym same) h }
+    record { lines' = lines; flow = seen_same d d' lines i (ap seen_of same.1); does = inr same; holds = subst (λ (z : Dif). Holds z lines below) (sym same.1) h }
 ask_taken d lines below i from invoke ask (Err e) d' h (inl kept) = record { lines' = lines; flow = seen_same d d' lines i kept.same; does = inl kept; holds = kept.holds }
 ask_taken d lines below i from invoke ask (Err e) d' h (inr m) =
-    record { lines' = m.made.lines'; flow = made_here d lines below i m.place m.made.member d' m.made.lines' h m.made.stands m.made.makes; does = inr m; holds = m.made.holds }
+    let made = m.2.made in
+    record { lines' = made.lines'; flow = made_here d lines below i m.2.place made.member d' made.lines' h made.stands made.makes; does = inr m; holds = made.holds }
 
 -- the answer to an ask comes
 
-answer_first : (d : Dif) (lines : List Direction) (below : Seen) (i from invoke cep : ℕ) (o : Option Why) (answer : FlowAnswer) (r : Result (Unit {0}) Memory) (d' : Dif) → Holds d lines below → (s : TakesFirst d lines below i from invoke answer r d') → TakesAt o cep d lines below i from s.which s.first.is_ask.ask.place r d' → MayChangeFlow (seen_of d) lines i (seen_of d') lines × Holds d' lines below
-answer_first d lines below i from invoke cep (Some cause) answer r d' h s t =
+-- a refusal, at the end that waits
+refused_here : (d : Dif) (lines : List Direction) (below : Seen) (i from invoke : ℕ) (cause : Why) (answer : FlowAnswer) (r : Result (Unit {0}) Memory) (d' : Dif) → (s : TakesFirst d lines below i from invoke answer r d') → RefusesAsk d lines below s.which s.first.is_ask.ask.place cause d' → MayChangeFlow (seen_of d) lines i (seen_of d') lines × Holds d' lines below
+refused_here d lines below i from invoke cause answer r d' s t =
     let w = s.first.is_ask.is_of.waits in
     let down = t.turns_down.turned in
     let same : w.end ≡ down.end = same_Some w.end down.end (sym w.is_end ∙ down.is_end) in
     (inr (inr (inr (inl (record { place = s.first.is_ask.ask.place; state = Refused cause; turned = down; here = ap (λ (e : End). home_of d e.port.node) (sym same) ∙ w.at_home; same = refl })))), t.holds)
-answer_first d lines below i from invoke cep None answer r d' h s (inl none) = (seen_same d d' lines i (ap seen_of none.1), subst (λ (z : Dif). Holds z lines below) (sym none.1) h)
+
+answer_first : (d : Dif) (lines : List Direction) (below : Seen) (i from invoke cep : ℕ) (o : Option Why) (answer : FlowAnswer) (r : Result (Unit {0}) Memory) (d' : Dif) → Holds d lines below → (s : TakesFirst d lines below i from invoke answer r d') → TakesAt o cep d lines below i from s.which s.first.is_ask.ask.place r d' → MayChangeFlow (seen_of d) lines i (seen_of d') lines × Holds d' lines below
+answer_first d lines below i from invoke cep (Some cause) answer r d' h s t = refused_here d lines below i from invoke cause answer r d' s t
+answer_first d lines below i from invoke cep None answer r d' h s (inl none) = refused_here d lines below i from invoke NotHere answer r d' s none.1
 answer_first d lines below i from invoke cep None answer (Ok done) d' h s (inr b) =
     let w = s.first.is_ask.is_of.waits in
     let bound = b.2.binds in

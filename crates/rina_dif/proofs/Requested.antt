@@ -339,6 +339,7 @@ module _ (d : Dif) (ask : Ask) (flow : AskedFlow) (w : IsWanted d ask flow) wher
           cube = flow.cube;
           meets = w.cube;
           peer = flow.far;
+          known = record { place = flow.near.place; here = w.here; management = w.management; is_management = w.is_management; finds = w.finds };
           asked = asked;
           port_is = w.draws.port;
           holds = record {
@@ -386,6 +387,7 @@ asks_drawing d d' lines below ask port at lt left a = record {
   cube = a.cube;
   meets = a.meets;
   peer = a.peer;
+  known = a.known;
   asked = a.asked;
   port_is = a.port_is;
   holds = draws_invoke d' a.lines' below at lt left a.holds;

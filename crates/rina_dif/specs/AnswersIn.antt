@@ -89,9 +89,9 @@ abbrev pub BindsAsk : Dif → List Direction → Seen → ℕ → ℕ → ℕ �
 BindsAsk d lines below at which place (Ok done) d' = HasBoundAsk d lines below at which place d'
 BindsAsk d lines below at which place (Err e) d' = IsKept d lines below d' × (d'.asks ≡ d.asks)
 
--- an answer of yes: nothing happens where the far end does not stand
+-- an answer of yes: where the far end does not stand the application is not there
 abbrev pub TakesYes : Dif → List Direction → Seen → ℕ → ℕ → ℕ → ℕ → ℕ → Result (Unit {0}) NoMemory → Dif → Type 0
-TakesYes d lines below at from cep which place r d' = (NoFarOf d place from cep × (d' ≡ d)) ⊎ ((far_at : ℕ) × FarOf d place from cep far_at × BindsAsk d lines below at which place r d')
+TakesYes d lines below at from cep which place r d' = (NoFarOf d place from cep × RefusesAsk d lines below which place why.NotHere d') ⊎ ((far_at : ℕ) × FarOf d place from cep far_at × BindsAsk d lines below at which place r d')
 
 -- by what the answer says
 abbrev pub TakesAt : Option Why → ℕ → Dif → List Direction → Seen → ℕ → ℕ → ℕ → ℕ → Result (Unit {0}) NoMemory → Dif → Type 0

@@ -115,6 +115,11 @@ next_cep d at = option_and_then (λ (ids : CepIds). free_id ids.0 d.clock ids.1)
 abbrev pub FitsNext : Dif → ℕ → Type 0
 FitsNext d at = (cep : ℕ) → next_cep d at ≡ Some cep → cep < 2 ^ (8 * d.settings.widths.cep)
 
+-- where the asker's end stands of an ask for which the member at a place can make the far end, since the CEP-id fits; None exactly where there is none
+abbrev pub FindsJoinable : Dif → ℕ → ℕ → ℕ → FlowAsk → Option ℕ → Type 0
+FindsJoinable d at own from ask None = (place : ℕ) → IsAskerOf d place own from ask → FitsNext d at → ⊥
+FindsJoinable d at own from ask (Some place) = IsAskerOf d place own from ask × FitsNext d at
+
 -- it is drawn unless the ids or the ports there are spent
 abbrev pub unless_spent : Option ℕ → Option ℕ → Option ℕ
 unless_spent None next = next
@@ -202,13 +207,17 @@ pub record Answers (d : Dif) (lines : List Direction) (below : Seen) (at own fro
   pub only : d' ≡ record d { managements = posts d at (message_of from own (words.Answer invoke answer)) d.managements }
   pub holds : Holds d' lines below
 
--- by the answer: a yes makes the far end, or nothing happens where no asker's end waits for it or no CEP-id fits
+-- where a yes is given: the far end is made; or where no asker's end waits for it, or no CEP-id fits, the asker is told that its application is not here
+abbrev pub AcceptsOrNot : Dif → List Direction → Seen → ℕ → ℕ → ℕ → ℕ → ℕ → FlowAsk → Dif → Type 0
+AcceptsOrNot d lines below at own node from invoke ask d' = Accepts d lines below at own node from invoke ask d' ⊎ (FindsJoinable d at own from ask None × Answers d lines below at own from invoke answers.NotHere d')
+
+-- by the answer
 abbrev pub AnswersBy : FlowAnswer → Dif → List Direction → Seen → ℕ → ℕ → ℕ → ℕ → ℕ → FlowAsk → Dif → Type 0
-AnswersBy (answers.Yes cep scep) d lines below at own node from invoke ask d' = Accepts d lines below at own node from invoke ask d' ⊎ ((d' ≡ d) × ((place : ℕ) → IsAskerOf d place own from ask → FitsNext d at → ⊥))
+AnswersBy (answers.Yes cep scep) d lines below at own node from invoke ask d' = AcceptsOrNot d lines below at own node from invoke ask d'
 AnswersBy answer d lines below at own node from invoke ask d' = Answers d lines below at own from invoke answer d'
 
--- what the enrolled member at a place, at a node, does where it is asked
-pub record AnswersAsk (d : Dif) (lines : List Direction) (below : Seen) (at from invoke : ℕ) (ask : FlowAsk) (d' : Dif) : Type 0 where
+-- the enrolled member at a place, at a node, decides on an ask: on these grounds it gives this answer
+pub record Decides (d : Dif) (at : ℕ) (ask : FlowAsk) : Type 0 where
   pub member : Member
   pub stands : slice_get d.settings.members at ≡ Some member
   pub enrolled : enrolled_home d member.node ≡ Some at
@@ -216,17 +225,26 @@ pub record AnswersAsk (d : Dif) (lines : List Direction) (below : Seen) (at from
   pub are : IsGrounds d at member.node ask grounds
   pub answer : FlowAnswer
   pub told : answer_by grounds ask.scep ≡ Some answer
-  pub does : AnswersBy answer d lines below at member.addr member.node from invoke ask d'
+
+-- and does so
+pub record AnswersAsk (d : Dif) (lines : List Direction) (below : Seen) (at from invoke : ℕ) (ask : FlowAsk) (d' : Dif) : Type 0 where
+  pub decides : Decides d at ask
+  pub does : AnswersBy decides.answer d lines below at decides.member.addr decides.member.node from invoke ask d'
 
 -- without memory the far end may have been made, of which the asker is not told
-pub record MayHaveMade (d : Dif) (lines : List Direction) (below : Seen) (at : ℕ) (d' : Dif) : Type 0 where
+pub record MayHaveMade (d : Dif) (lines : List Direction) (below : Seen) (at from : ℕ) (ask : FlowAsk) (d' : Dif) : Type 0 where
   pub place : ℕ
   pub made : HasMadeFar d lines below at place d'
+  pub asker : IsAskerOf d place made.member.addr from ask
 
--- a member that is not enrolled does nothing
+-- the member at a place is not enrolled
+abbrev pub IsNotEnrolled : Dif → ℕ → Type 0
+IsNotEnrolled d at = (m : Member) → slice_get d.settings.members at ≡ Some m → enrolled_home d m.node ≡ Some at → ⊥
+
+-- a member that is not enrolled does nothing; a far end is made only where the decision is yes
 abbrev pub HandlesAsk : Dif → List Direction → Seen → ℕ → ℕ → ℕ → FlowAsk → Result (Unit {0}) NoMemory → Dif → Type 0
-HandlesAsk d lines below at from invoke ask (Ok done) d' = AnswersAsk d lines below at from invoke ask d' ⊎ (d' ≡ d)
-HandlesAsk d lines below at from invoke ask (Err e) d' = IsKept d lines below d' ⊎ MayHaveMade d lines below at d'
+HandlesAsk d lines below at from invoke ask (Ok done) d' = AnswersAsk d lines below at from invoke ask d' ⊎ (IsNotEnrolled d at × (d' ≡ d))
+HandlesAsk d lines below at from invoke ask (Err e) d' = IsKept d lines below d' ⊎ ((decides : Decides d at ask) × (is_yes decides.answer ≡ true) × MayHaveMade d lines below at from ask d')
 
 -- The parts of an answer
 
@@ -247,12 +265,12 @@ pub record MayAccept (d : Dif) (at : ℕ) (ask : FlowAsk) (answer : FlowAnswer) 
   pub next : next_cep d at ≡ Some cep
   pub answer_is : answer ≡ answers.Yes cep ask.scep
 
--- then it makes the far end, or nothing happens where no asker's end waits for it or no CEP-id fits
+-- then it makes the far end, or says that it can not
 pub record AcceptsAt (d : Dif) (lines : List Direction) (below : Seen) (at from invoke : ℕ) (ask : FlowAsk) (d' : Dif) : Type 0 where
   pub member : Member
   pub stands : slice_get d.settings.members at ≡ Some member
-  pub does : Accepts d lines below at member.addr member.node from invoke ask d' ⊎ ((d' ≡ d) × ((place : ℕ) → IsAskerOf d place member.addr from ask → FitsNext d at → ⊥))
+  pub does : AcceptsOrNot d lines below at member.addr member.node from invoke ask d'
 
 abbrev pub AcceptsOr : Dif → List Direction → Seen → ℕ → ℕ → ℕ → FlowAsk → Result (Unit {0}) NoMemory → Dif → Type 0
 AcceptsOr d lines below at from invoke ask (Ok done) d' = AcceptsAt d lines below at from invoke ask d'
-AcceptsOr d lines below at from invoke ask (Err e) d' = IsKept d lines below d' ⊎ MayHaveMade d lines below at d'
+AcceptsOr d lines below at from invoke ask (Err e) d' = IsKept d lines below d' ⊎ MayHaveMade d lines below at from ask d'

@@ -92,9 +92,10 @@ ChangesFlowParts d d' = d' ≡ record d { processes = d'.processes; managements 
 
 -- Handling
 
--- a message for another member waits for its next hop, or is dropped where there is none; nothing else changes then
-abbrev pub PassesOn : Dif → ℕ → FlowMessage → Dif → Type 0
-PassesOn d i message d' = (member : Member) → slice_get d.settings.members i ≡ Some member → message.to ≢ member.addr → d' ≡ record d { managements = posts d i message d.managements }
+-- a message for another member waits for its next hop, or is dropped where there is none; nothing else changes then, and without memory nothing does
+abbrev pub PassesOn : Dif → ℕ → FlowMessage → Result (Unit {0}) NoMemory → Dif → Type 0
+PassesOn d i message (Ok done) d' = (member : Member) → slice_get d.settings.members i ≡ Some member → message.to ≢ member.addr → d' ≡ record d { managements = posts d i message d.managements }
+PassesOn d i message (Err e) d' = (member : Member) → slice_get d.settings.members i ≡ Some member → message.to ≢ member.addr → d' ≡ d
 
 -- the member of place i handles one that is for it, from the member of an address, by its word
 abbrev pub HandlesWord : Dif → List Direction → Seen → ℕ → ℕ → FlowWord → Result (Unit {0}) NoMemory → Dif → Type 0
@@ -106,7 +107,7 @@ HandlesWord d lines below i from (words.Delete dcep scep) result d' = TakesDelet
 pub record HandlesFlow (d : Dif) (lines : List Direction) (below : Seen) (i : ℕ) (message : FlowMessage) (result : Result (Unit {0}) NoMemory) (d' : Dif) (lines' : List Direction) : Type 0 where
   pub flow : MayChangeFlow (seen_of d) lines i (seen_of d') lines'
   pub rest : ChangesFlowParts d d'
-  pub on : result ≡ Ok tt → PassesOn d i message d'
+  pub on : PassesOn d i message result d'
   pub own : (member : Member) → slice_get d.settings.members i ≡ Some member → message.to ≡ member.addr → HandlesWord d lines below i message.from message.word result d'
 
 -- with several, one after the other; the DIF holds after each. Without memory it stops at one of them

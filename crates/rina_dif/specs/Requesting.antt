@@ -123,12 +123,21 @@ RequestsAs (Ok port) d ask d' = Requests d ask port d'
 RequestsAs (Err Memory) d ask d' = MayRequest d ask d'.managements
 RequestsAs (Err e) d ask d' = (d'.managements ≡ d.managements) × (d'.asks ≡ d.asks)
 
--- the flow is asked for, and its port told
+-- the enrolled member at a node knows an application at this address
+pub record KnowsAt (d : Dif) (node : ℕ) (app : List ℕ) (address : ℕ) : Type 0 where
+  pub place : ℕ
+  pub here : enrolled_home d node ≡ Some place
+  pub management : Management
+  pub is_management : slice_get d.managements place ≡ Some management
+  pub finds : found management.agent.items app ≡ Some address
+
+-- the flow is asked for at the address where its member knows the other application, and its port told
 pub record AsksAt (d : Dif) (lines : List Direction) (below : Seen) (ask : Ask) (port : Port) (d' : Dif) : Type 0 where
   pub lines' : List Direction
   pub cube : Cube
   pub meets : find (fits ask.want) d.settings.cubes ≡ Some cube
   pub peer : ℕ
+  pub known : KnowsAt d ask.node ask.to peer
   pub asked : IsAskedFor (seen_of d) lines (record { node = ask.node; app = ask.app; to = ask.to; cube = cube.id; peer = peer }) (seen_of d') lines'
   pub port_is : port ≡ next_port (fac_of (seen_of d)) d.settings.fac ask.node
   pub holds : Holds d' lines' below

@@ -77,7 +77,7 @@ impl Dif {
     }
 
     /// Lets the member at a place take the yes of the member of an address to its ask that stands here: its end is allocated, where the far end
-    /// stands. Without memory the DIF shows what it showed.
+    /// stands, and refused with `NotHere` where it does not. Without memory the DIF shows what it showed.
     fn take_yes(
         &mut self,
         alloc: Global,
@@ -92,7 +92,7 @@ impl Dif {
         requires which { which < length self.old.asks.items }
         requires waits { WaitsAtHome self.old at place }
         ensures does { (lines : List Direction) (below : Seen) → Holds self.old lines below → TakesYes self.old lines below at from dcep which place result self.new }
-        ensures whole { self.new ≡ record self.old { flows = self.new.flows; asks = self.new.asks; managements = self.new.managements } }
+        ensures whole { self.new ≡ record self.old { flows = self.new.flows; ids = self.new.ids; asks = self.new.asks; managements = self.new.managements } }
         ensures leaves { ChangesOnly (IsEndHere self.old (Some at)) (Some at) self.old self.new }
     {
         let Some(end) = self.flows.journal.ends.get(place) else {
@@ -100,6 +100,7 @@ impl Dif {
         };
         let flow = end.flow;
         let Some(far_at) = self.far_end_of(flow, from, dcep) else {
+            self.refuse_ask(at, which, place, Why::NotHere);
             return Ok(());
         };
         self.bind_at(alloc, at, place, far_at)?;

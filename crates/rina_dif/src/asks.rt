@@ -118,6 +118,7 @@ impl Dif {
     /// invoke id left. A refused call changes nothing. Without memory the DIF shows what it showed, and a request may wait, which is never sent.
     pub fn allocate(&mut self, alloc: Global, ask: &Ask) -> Result<Port, AllocateError>
         requires { IsDif self.old }
+        ensures does { (lines : List Direction) (below : Seen) → Holds self.old lines below → AsksTo self.old lines below ask.now result self.new }
         ensures valid { IsDif self.new }
         ensures shown { (s : Seen) → IsShownAs s ask.now.fac self.old → self.old.settings.fac ≡ ask.now.fac → Allocates (allocate_refusal self.old ask.now) s ask.now result (shown_as s ask.now.fac self.new) }
         ensures goes_on { GoesOn self.old self.new }

@@ -17,7 +17,7 @@ ghost use Rattle.rina_pci.specs.Spelling.{AreWidths};
 ghost use Rattle.rina_member.specs.declared.management.Management.{Management};
 ghost use Rattle.rina_dif_law.specs.Dif.{fac_of};
 ghost use Rattle.rina_dif.specs.Elsewhere.{ChangesOnly, IsEndHere, enrolled_home};
-ghost use Rattle.rina_dif.specs.FarMaking.{AcceptsOr, AddsFarEnd, AsksFor, CanMakeFar, DrawsFarEnd, FindsAsker, FitsNext, HandlesAsk, HasFar, IsAskerOf, IsGrounds, LeadsTo, MakesFar, MayAccept, SendsAnswer, answer_told, denied_by, is_aged, is_here, is_yes, next_cep, unless_spent};
+ghost use Rattle.rina_dif.specs.FarMaking.{AcceptsOr, AddsFarEnd, AsksFor, CanMakeFar, DrawsFarEnd, FindsAsker, FindsJoinable, FitsNext, HandlesAsk, HasFar, IsAskerOf, IsGrounds, LeadsTo, MakesFar, MayAccept, SendsAnswer, answer_told, denied_by, is_aged, is_here, is_yes, next_cep, unless_spent};
 ghost use Rattle.rina_dif.specs.Holding.{Holds};
 ghost use Rattle.rina_dif.specs.Shown.{seen_of};
 ghost use Rattle.rina_dif.specs.Whole.{IsDif};
@@ -381,8 +381,23 @@ impl Dif {
         true
     }
 
-    /// Lets the member at a place answer yes to an ask that nothing refuses: it makes the far end, where an asker's end waits for it. Nothing
-    /// happens where there is none. Without memory the far end may have been made, of which the asker is not told.
+    /// Where the asker's end stands of an ask for which the member at a place can make the far end, since the CEP-id fits. None exactly where
+    /// there is none.
+    fn asker_to_join(&self, at: usize, own: Addr, from: Addr, ask: &FlowAsk) -> Option<usize>
+        requires widths { AreWidths self.now.settings.widths }
+        requires at { at < length self.now.ids }
+        ensures { FindsJoinable self.now at own from ask.now result }
+    {
+        let place = self.asker_of(own, from, ask)?;
+        if self.fits_next(at) {
+            Some(place)
+        } else {
+            None
+        }
+    }
+
+    /// Lets the member at a place answer yes to an ask that nothing refuses, and makes the far end. Where no asker's end waits for that, the
+    /// answer is `NotHere`: no member sends such an ask. Without memory the far end may have been made, of which the asker is not told.
     fn accept(
         &mut self,
         alloc: Global,
@@ -399,12 +414,9 @@ impl Dif {
         ensures leaves { ChangesOnly (IsEndHere self.old (Some at)) (Some at) self.old self.new }
     {
         let own = self.address_at(at);
-        let Some(place) = self.asker_of(own, from, ask) else {
-            return Ok(());
+        let Some(place) = self.asker_to_join(at, own, from, ask) else {
+            return self.send_answer(alloc, at, from, invoke, FlowAnswer::NotHere);
         };
-        if !self.fits_next(at) {
-            return Ok(());
-        }
         self.make_far(alloc, at, place, from, ask)?;
         self.send_answer(alloc, at, from, invoke, answer)
     }

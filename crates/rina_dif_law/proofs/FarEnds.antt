@@ -5,6 +5,7 @@ use Rattle.std.proofs.lemmas.Option.{same_Some, slice_get_within}
 use Rattle.rina_iface.specs.declared.ends.End.{End}
 use Rattle.rina_iface.specs.Journal.{At}
 use Rattle.rina_iface.specs.Later.{AreFarOf, AreLater, IsFarOf, IsLaterEnd}
+use Rattle.rina_iface.proofs.FarEnds.{answers_old, answers_on}
 use Rattle.rina_iface.proofs.LaterOn.{ends_on, ends_wider}
 use Rattle.rina_data.proofs.Finding.{there}
 use Rattle.rina_dif_law.specs.Dif.{DifSeen}
@@ -16,37 +17,15 @@ none_fresh old new number i e is past = (let low = slice_get_within new i e is i
 
 -- a far end goes on, and nothing is sent or passed at it
 far_goes_on : (before now : ℕ) (ends : List End) (e e' : End) → IsFarOf ends e → IsLaterEnd before now e e' → e'.sent ≡ e.sent → e'.taken ≡ e.taken → IsFarOf ends e'
-far_goes_on before now ends e e' f later sent taken = record {
-  place = f.place;
-  asker = f.asker;
-  stands = f.stands;
-  far = later.role ∙ f.far;
-  partner = record { same_flow = f.partner.same_flow ∙ sym later.flow; other_role = λ same. f.partner.other_role (same ∙ later.role) };
-  named = record { peer = later.peer ∙ f.named.peer; its_peer = f.named.its_peer ∙ sym later.app; cube = f.named.cube ∙ sym later.cube };
-  sent = sent ∙ f.sent;
-  taken = taken ∙ f.taken;
-}
+far_goes_on before now ends e e' f later sent taken = record { answers = answers_on before now ends e e' later f.answers; sent = sent ∙ f.sent; taken = taken ∙ f.taken }
 
--- the asker of a far end is no far end, so that it stood there before all that are new
+-- its asker stood there before all that are new
 asker_stood : (before now : ℕ) (old mid : List End) (e : End) → AreLater before now old mid → AreFarOf old mid → IsFarOf mid e → IsFarOf old e
-asker_stood before now old mid e later fresh f = elim (cases_lt f.place (length old)) [
-  | inl low ↦
-      let a = there old f.place low in
-      let m = later f.place a.0 a.1 in
-      let is : f.asker ≡ m.0 = same_Some f.asker m.0 (sym f.stands ∙ m.1) in
-      let same : IsLaterEnd before now a.0 f.asker = subst (λ (z : End). IsLaterEnd before now a.0 z) (sym is) m.2 in
-      record {
-        place = f.place;
-        asker = a.0;
-        stands = a.1;
-        far = f.far;
-        partner = record { same_flow = sym same.flow ∙ f.partner.same_flow; other_role = λ role. f.partner.other_role (same.role ∙ role) };
-        named = record { peer = f.named.peer ∙ same.app; its_peer = sym same.peer ∙ f.named.its_peer; cube = sym same.cube ∙ f.named.cube };
-        sent = f.sent;
-        taken = f.taken;
-      }
-  | inr past ↦ (let n = fresh f.place f.asker f.stands past in absurd (f.partner.other_role (n.far ∙ sym f.far)))
-]
+asker_stood before now old mid e later fresh f = record {
+  answers = answers_old before now old mid e later f.answers (λ past. (fresh f.answers.place f.answers.asker f.answers.stands past).answers);
+  sent = f.sent;
+  taken = f.taken;
+}
 
 -- one step after the other is silent
 pub silent_on : (a b c : DifSeen) → a.clock ≤ b.clock → b.clock ≤ c.clock → IsSilent a b → IsSilent b c → IsSilent a c

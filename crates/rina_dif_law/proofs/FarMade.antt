@@ -389,12 +389,14 @@ made_silent d lines node at d' lines' s = record {
 
     its_far : IsFarOf d.ends far
     its_far = record {
-      place = at;
-      asker = s.asker;
-      stands = s.is_conn.end;
-      far = refl;
-      partner = record { same_flow = refl; other_role = λ same. (let asks = s.asks in let clash : Far ≡ Asker = sym same ∙ asks in cc) };
-      named = record { peer = refl; its_peer = refl; cube = refl };
+      answers = record {
+        place = at;
+        asker = s.asker;
+        stands = s.is_conn.end;
+        far = refl;
+        partner = record { same_flow = refl; other_role = λ same. (let asks = s.asks in let clash : Far ≡ Asker = sym same ∙ asks in cc) };
+        named = record { peer = refl; its_peer = refl; cube = refl };
+      };
       sent = refl;
       taken = refl;
     }

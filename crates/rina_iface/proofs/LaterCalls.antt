@@ -8,7 +8,7 @@ use Rattle.rina_iface.specs.declared.ask.Ask.{Ask}
 use Rattle.rina_iface.specs.declared.ask.Fixed.{Fixed}
 use Rattle.rina_iface.specs.declared.ends.End.{End}
 use Rattle.rina_iface.specs.declared.error.AllocateError.{AllocateError}
-use Rattle.rina_iface.specs.declared.error.AllocateError.TheVariants.{Memory as NoMemory, NoMember as NoPlace, NoCube, NoSuchApp, SameSystem, NoIds, NoRoute as NoWay, Busy, CountSpent as IdsSpent, Unbuilt as NotBuilt}
+use Rattle.rina_iface.specs.declared.error.AllocateError.TheVariants.{Memory as NoMemory, NoMember as NoPlace, NoCube, NoSuchApp, SameSystem, NoIds, NoRoute as NoWay, Busy, CountSpent as IdsSpent}
 use Rattle.rina_iface.specs.declared.error.RegisterError.{RegisterError}
 use Rattle.rina_iface.specs.declared.error.RegisterError.TheVariants.{Memory, Already, NoMember, CountSpent}
 use Rattle.rina_iface.specs.declared.error.SendError.{SendError}
@@ -66,7 +66,6 @@ later_allocates own s ask (Err (NoIds used)) s' w = same s s' w.1
 later_allocates own s ask (Err (NoWay dst)) s' w = same s s' w.1
 later_allocates own s ask (Err (Busy port)) s' w = same s s' w.1
 later_allocates own s ask (Err (IdsSpent n k)) s' w = same s s' w.1
-later_allocates own s ask (Err NotBuilt) s' w = same s s' w.1
 
 pub later_unregisters : (own : Option UnregisterError) (s : Seen) (fac node : ℕ) (app : List ℕ) (r : Result (Unit {0}) UnregisterError) (s' : Seen) → Unregisters own s fac node app r s' → IsLater s s'
 later_unregisters own s fac node app (Ok done) s' w = rw w.1.new_is (later_fac s fac w.1.facility _ w.1.stands (record { ends = ends_refl s.now s.now w.1.facility.ends; cubes = refl }))
@@ -85,7 +84,6 @@ later_binds s fixed (Err (NoIds used)) s' w = absurd w
 later_binds s fixed (Err (NoWay dst)) s' w = absurd w
 later_binds s fixed (Err (Busy port)) s' w = absurd w
 later_binds s fixed (Err (IdsSpent n k)) s' w = absurd w
-later_binds s fixed (Err NotBuilt) s' w = absurd w
 
 -- two partners stand at two places
 pub partners_apart : (ends : List End) (i k : ℕ) (e other : End) → At ends i e → At ends k other → IsPartner e other → k ≢ i

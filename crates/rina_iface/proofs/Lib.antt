@@ -1,4 +1,5 @@
 pub mod Changed
+pub mod FarEnds
 pub mod Found
 pub mod Fresh
 pub mod Grown

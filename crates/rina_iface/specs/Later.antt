@@ -59,14 +59,18 @@ pub record IsLater (old new : Seen) : Type 0 where
   pub number : length new.facs ≡ length old.facs
   pub facs : (n : ℕ) (f : Fac) → slice_get old.facs n ≡ Some f → (f' : Fac) × (slice_get new.facs n ≡ Some f') × IsLaterFac old.now new.now f f'
 
--- the far end of a flow whose asker stands among these ends, at which nothing was sent or passed yet
-pub record IsFarOf (ends : List End) (e : End) : Type 0 where
+-- the far end of a flow whose asker stands among these ends
+pub record AnswersOne (ends : List End) (e : End) : Type 0 where
   pub place : ℕ
   pub asker : End
   pub stands : At ends place asker
   pub far : e.role ≡ Far
   pub partner : IsPartner e asker
   pub named : IsNamed e asker
+
+-- such an end, at which nothing was sent or passed yet
+pub record IsFarOf (ends : List End) (e : End) : Type 0 where
+  pub answers : AnswersOne ends e
   pub sent : e.sent ≡ []
   pub taken : e.taken ≡ 0
 

@@ -48,8 +48,6 @@ pub enum AllocateError {
     Busy { port: Port },
     /// The member would need `need` invoke ids or version counts, and has `left`.
     CountSpent { need: u32, left: u32 },
-    /// No facility refuses so: a word that notes may still have.
-    Unbuilt,
 }
 
 /// Why an SDU was not sent.

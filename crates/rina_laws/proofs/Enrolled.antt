@@ -58,7 +58,7 @@ pub enrol_asks : (dif node fac peer : ℕ) (result : Result (Unit {0}) EnrolErro
 enrol_asks dif node fac peer result p p' difs difs' below below' does = asks_there difs below below' dif node fac peer (slice_get difs dif) result refl does.2
 
 -- a member's name is that of an IPC process
-member_ipc : (difs : List Dif) (below : Tower) (n : ℕ) (d : Dif) (i : ℕ) (member : Member) → AreStanding difs (seen_of below) → At difs n d → slice_get d.settings.members i ≡ Some member → IsIpc member.name
+pub member_ipc : (difs : List Dif) (below : Tower) (n : ℕ) (d : Dif) (i : ℕ) (member : Member) → AreStanding difs (seen_of below) → At difs n d → slice_get d.settings.members i ≡ Some member → IsIpc member.name
 member_ipc difs below n d i member standing at is =
     let mine : IsMine (config_of d.settings).members member.name = record { addr = member.addr; member = record { place = i; member = member_of member; stands = slice_get-map member_of d.settings.members i ∙ ap (option_map member_of) is; addr_is = refl; name_is = refl } } in
     standing.ipc n d member.name at mine

@@ -204,7 +204,6 @@ refused_same own s ask (allocate.NoIds used) s' g = g.1
 refused_same own s ask (allocate.NoRoute dst) s' g = g.1
 refused_same own s ask (allocate.Busy port) s' g = g.1
 refused_same own s ask (allocate.CountSpent n k) s' g = g.1
-refused_same own s ask allocate.Unbuilt s' g = g.1
 
 refused_on : (a : Air) (ask : Ask) (e : AllocateError) (a' : Air) → AllocatesOn a ask (Err e) a' → seen_of_wires a' ≡ seen_of_wires a
 refused_on a ask allocate.Memory a' g = ap seen_of_wires g
@@ -216,7 +215,6 @@ refused_on a ask (allocate.NoIds used) a' g = ap seen_of_wires g.air
 refused_on a ask (allocate.NoRoute dst) a' g = ap seen_of_wires g.air
 refused_on a ask (allocate.Busy port) a' g = ap seen_of_wires g.air
 refused_on a ask (allocate.CountSpent n k) a' g = ap seen_of_wires g.air
-refused_on a ask allocate.Unbuilt a' g = ap seen_of_wires g.air
 
 pub rests_ask : (ask : Ask) (e : AllocateError) (u u' : Tower) → IsTower u → AllocatesAtTop ask (Err e) u u' → RestsHere u u'
 rests_ask ask e (Wires a) (Wires a') v w = record { below = tt; rests = rest_same (facs_of (Wires a)) (facs_of (Wires a')) (ap (λ (z : Seen). z.facs) (refused_on a ask e a' w)) }

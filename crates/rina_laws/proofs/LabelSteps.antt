@@ -48,7 +48,7 @@ own_ports : (d d' : Dif) → IsSilent (seen_of_dif d) (seen_of_dif d') → HasPo
 own_ports d d' s ports n own i e y = elim (cases_lt i (length (fac_of_dif d).ends)) [
   | inl low ↦ (let a = there (fac_of_dif d).ends i low in of_old i a.0 a.1 e y)
   | inr past ↦
-      let f = s.fresh i e y past in
+      let f = (s.fresh i e y past).answers in
       let a = s.later.ends f.place f.asker f.stands in
       ports.own i e y ∙ sym (ports.own f.place a.0 a.1) ∙ of_old f.place f.asker f.stands a.0 a.1
 ]

@@ -59,3 +59,13 @@ pub mod WrittenGrows
 pub mod WrittenRun
 pub mod WrittenSteps
 pub mod WrittenWords
+pub mod NamedAsks
+pub mod NamedCalls
+pub mod NamedComes
+pub mod NamedEnds
+pub mod NamedFar
+pub mod NamedNames
+pub mod NamedRun
+pub mod NamedShown
+pub mod NamedSteps
+pub mod NamedWords

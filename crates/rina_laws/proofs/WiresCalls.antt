@@ -101,7 +101,6 @@ carry_allocates Q kept fac a ask (Err (asks.NoIds used)) a' c g = subst (OnWire 
 carry_allocates Q kept fac a ask (Err (asks.NoRoute dst)) a' c g = subst (OnWire Q fac) (sym g.air) c
 carry_allocates Q kept fac a ask (Err (asks.Busy port)) a' c g = subst (OnWire Q fac) (sym g.air) c
 carry_allocates Q kept fac a ask (Err (asks.CountSpent n m)) a' c g = subst (OnWire Q fac) (sym g.air) c
-carry_allocates Q kept fac a ask (Err asks.Unbuilt) a' c g = subst (OnWire Q fac) (sym g.air) c
 
 keeps_allocates : (Q : ℕ → Line → Type 0) (kept : KeepsLine Q) (fac : ℕ) (a : Air) (ask : Ask) (r : Result Port AllocateError) (a' : Air) → HasWire Q fac a → AllocatesOn a ask r a' → HasWire Q fac a'
 keeps_allocates Q kept fac a ask r a' c g = record { sound = sound_allocates a ask r a' c.sound g; holds = carry_allocates Q kept fac a ask r a' c.holds g }

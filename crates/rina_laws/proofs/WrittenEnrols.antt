@@ -66,7 +66,6 @@ module _ (W : MayBeWritten) (below : Tower) (d d' : Dif) where
   enrols_as own lower node fac peer (Err (errors.Lower (allocate.NoRoute dst))) lower' e = nothing_done e.same
   enrols_as own lower node fac peer (Err (errors.Lower (allocate.Busy port))) lower' e = nothing_done e.same
   enrols_as own lower node fac peer (Err (errors.Lower (allocate.CountSpent need left))) lower' e = nothing_done e.same
-  enrols_as own lower node fac peer (Err (errors.Lower allocate.Unbuilt)) lower' e = nothing_done e.same
 
   one_enrols : (own : Ask → Option AllocateError) (lower : Seen) (node fac peer : ℕ) (x : Result (Unit {0}) EnrolError) (lower' : Seen) → EnrolsOne own lower node fac peer x lower' d d' → DifGrows W below d d'
   one_enrols own lower node fac peer x lower' e = elim (d.failed) as (λ z. d.failed ≡ z → DifGrows W below d d') [

@@ -112,6 +112,9 @@ pass_here W port x u u' v waits d = (let some : IsSome (unpassed (seen_of u) por
 pass : (W : MayBeWritten) (rank : ℕ) (port : Port) (t t' : Tower) (x : Entry) → IsTower t → waiting t rank port ≡ Some x → AppPasses rank port t t' → Goes W t t'
 pass W rank port t t' x v waits d = at_rank W rank (PassesAtTop port) ⊥ t t' v (λ u u' is k e. pass_here W port x u u' k (waits_there t u rank port x is waits) e) d
 
+pub pass_valid : (rank : ℕ) (port : Port) (t t' : Tower) (x : Entry) → IsTower t → waiting t rank port ≡ Some x → AppPasses rank port t t' → IsTower t'
+pass_valid rank port t t' x v waits d = (pass Never rank port t t' x v waits d).valid
+
 never_on : (t u v : Tower) → Goes Never t u → Goes Never u v → Goes Never t v
 never_on t u v x y = record { valid = y.valid; height = y.height ∙ x.height; alone = now_on IsIpc (seen_of t) (seen_of u) (seen_of v) x.alone y.alone; grows = grows_on t u v x.grows y.grows }
 

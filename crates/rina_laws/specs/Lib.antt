@@ -5,4 +5,5 @@ pub mod Cuts
 pub mod Starts
 pub mod WiresPlanned
 pub mod Written
+pub mod Named
 pub mod SomeStep

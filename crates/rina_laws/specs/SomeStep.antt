@@ -1,7 +1,9 @@
--- The steps of a run that may write a PDU off: each step of a round, and each line that lets a DIF take a step or frees a flow.
+-- The steps of a run that may write a PDU off, or make a far end: each step of a round, and each line that lets a DIF take a step or frees a flow.
 -- Each definition says that this holds of the towers before and after some of the steps that a relation of the run names.
 use Rattle.std.specs.Prelude.{◌≡◌, ◌⊎◌, ℕ, ◌+◌, zero, suc, nat_lt, Bool, true, false, List, [], ◌∷◌, Option, Some, None, Result, Ok, Err}
 use Rattle.rina_account.specs.declared.ledger.Off.{Off}
+use Rattle.rina_iface.specs.declared.ends.End.{End}
+use Rattle.rina_iface.specs.declared.state.Role.TheVariants.{Far}
 use Rattle.rina_policy.specs.Slots.{Slot}
 use Rattle.rina_report.specs.declared.note.Note.{Note}
 use Rattle.rina_schedule.specs.declared.error.LineError.{LineError}
@@ -17,6 +19,7 @@ use Rattle.rina_schedule.specs.Line.{line_at as event_at}
 use Rattle.rina_words.specs.Step.{Acts, RoundsBy, Stage, Ticking, Ticks, rounds_after}
 use Rattle.rina_run.specs.Opening.{IsOpening}
 use Rattle.rina_run.specs.Run.{LineDoes, Runs}
+use Rattle.rina_laws.specs.Named.{MakesFarEnd, end_at}
 use Rattle.rina_laws.specs.Written.{IsWritten, line_at}
 
 -- of some step of a round's list
@@ -72,3 +75,9 @@ abbrev pub LinesHaveCauses : Type 0
 LinesHaveCauses =
     (plan : Plan) (shelf : List Slot) (start : Stage) (lines : List (List ℕ)) (ns : List Note) (s : Stage) → IsOpening plan shelf start → (runs : Runs plan 1 start lines ns s)
     → (r n i k : ℕ) (off : Off) → line_at s.run.tower r n i k ≡ Some off → SomeStep (IsWritten r n i k off) plan 1 start lines ns s runs
+
+-- in every run of a stack, each far end of each DIF that was not there at the opening was made in one of the run's steps, in which it was asked for
+abbrev pub FarEndsAreAskedFor : Type 0
+FarEndsAreAskedFor =
+    (plan : Plan) (shelf : List Slot) (start : Stage) (lines : List (List ℕ)) (ns : List Note) (s : Stage) → IsOpening plan shelf start → (runs : Runs plan 1 start lines ns s)
+    → (r n i : ℕ) (e : End) → end_at s.run.tower r n i ≡ Some e → e.role ≡ Far → end_at start.run.tower r n i ≡ None → SomeStep (MakesFarEnd r n i e) plan 1 start lines ns s runs

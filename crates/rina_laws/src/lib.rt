@@ -5,7 +5,8 @@ ghost use Rattle.rina_laws.specs.Planned.{RoutesAsPlanned, StaysAsPlanned};
 ghost use Rattle.rina_laws.specs.Cuts.{FailuresAreCuts};
 ghost use Rattle.rina_laws.specs.Frames.{FramesArriveOnce, GiveUpsEmptyOneWire};
 ghost use Rattle.rina_laws.specs.Labels.{GotIsTold, SentIsTold};
-ghost use Rattle.rina_laws.specs.SomeStep.{LinesHaveCauses};
+ghost use Rattle.rina_laws.specs.Named.{NamesAreRegistered};
+ghost use Rattle.rina_laws.specs.SomeStep.{FarEndsAreAskedFor, LinesHaveCauses};
 ghost use Rattle.rina_laws.specs.Starts.{DifsStartUntouched, WiresStartAsPlanned};
 ghost use Rattle.rina_laws.specs.WiresPlanned.{WiresDrawByFrames, WiresStayAsPlanned};
 
@@ -84,4 +85,23 @@ pub fn labels_tell_their_ends()
 /// of its cause held of the DIF, and of the rank below, as they were before the step.
 pub fn each_line_has_its_cause()
     ensures { LinesHaveCauses }
+{}
+
+/// After any run from its opening each name that stands registered at a node of a DIF of any rank was registered by a line
+/// `register` of the schedule, for that application at that node of that DIF, whose `ok` stands among the notes of the run with
+/// a tick that has come; or it is there since the opening, or is an IPC process's, which a line `publish` registers. So no
+/// application is known in a DIF but by its own leave.
+pub fn each_name_was_registered()
+    ensures { NamesAreRegistered }
+{}
+
+/// After any run from its opening each far end of a flow of a DIF of any rank that is not there since the opening was made in one
+/// of the steps of the run: a step of a round, or a line `in`. No end stood at its place before that step. In the step a member
+/// of the DIF took a message that asks for the flow: of its name and cube, for the application at the far end, by that at the
+/// asker's. That application was registered at the node of the far end before the step. As the message was handled, behind
+/// those that came with it, an enrolled member stood on that node, whose rules allow the asker's application; the ask was younger
+/// than the CEP-ids of its cube rest; and the asker's end stood in the DIF, with each other's application as peer, and without a far
+/// end. So nobody has a flow to an application that is not registered there, or to which the rules deny it.
+pub fn each_far_end_was_asked_for()
+    ensures { FarEndsAreAskedFor }
 {}

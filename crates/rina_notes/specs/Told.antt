@@ -111,7 +111,6 @@ allocate_told fac node (allocate.NoIds used) = Some (refusals.NoIds used)
 allocate_told fac node (allocate.NoRoute dst) = Some (refusals.NoRoute dst)
 allocate_told fac node (allocate.Busy port) = Some (refusals.Busy (port_note port.n fac node))
 allocate_told fac node (allocate.CountSpent need left) = Some (refusals.CountSpent need left)
-allocate_told fac node allocate.Unbuilt = Some refusals.Unbuilt
 
 -- what `enrol` refused at a facility below and a node of these names: of what that facility refused, that
 abbrev pub enrol_told : List ℕ → List ℕ → EnrolError → Option Refusal

@@ -137,7 +137,6 @@ fn allocate_refusal(
             Ok(Some(Refusal::Busy { port }))
         }
         AllocateError::CountSpent { need, left } => Ok(Some(Refusal::CountSpent { need, left })),
-        AllocateError::Unbuilt => Ok(Some(Refusal::Unbuilt)),
     }
 }
 

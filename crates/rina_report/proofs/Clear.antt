@@ -174,7 +174,6 @@ refusal_clear refusals.NoPort h = refl
 refusal_clear refusals.NoLink h = refl
 refusal_clear refusals.NoRank h = refl
 refusal_clear refusals.NotYours h = refl
-refusal_clear refusals.Unbuilt h = refl
 refusal_clear (refusals.Unknown field) h = rw (decimal_clear32 field h) refl
 refusal_clear (refusals.NoIds used) h = rw (decimal_clear32 used h) refl
 refusal_clear (refusals.NoRoute dst) h = rw (decimal_clear32 dst h) refl

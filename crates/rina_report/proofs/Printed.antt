@@ -135,7 +135,6 @@ refusal_back m refusals.NoPort h = refl
 refusal_back m refusals.NoLink h = refl
 refusal_back m refusals.NoRank h = refl
 refusal_back m refusals.NotYours h = refl
-refusal_back m refusals.Unbuilt h = refl
 refusal_back m (refusals.Unknown field) h = rw (last_number_back max32 (m + 1) field (omega arith) h) refl
 refusal_back m (refusals.NoIds used) h = rw (last_number_back max32 (m + 1) used (omega arith) h) refl
 refusal_back m (refusals.NoRoute dst) h = rw (last_number_back max32 (m + 1) dst (omega arith) h) refl

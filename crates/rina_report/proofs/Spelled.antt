@@ -188,8 +188,7 @@ bare_is word =
     word_some word (codes "NoLink") _ _ (λ e. (e, refl, tt)) (
     word_some word (codes "NoRank") _ _ (λ e. (e, refl, tt)) (
     word_some word (codes "NotYours") _ _ (λ e. (e, refl, tt)) (
-    word_some word (codes "Unbuilt") _ _ (λ e. (e, refl, tt)) (
-    none))))))))))))))))
+    none)))))))))))))))
 
 abbrev pub SpellsRefusal : List (List ℕ) → Refusal → Type 0
 SpellsRefusal fs x = (fs ≡ refusal_fields x) × IsRefusal x

@@ -28,8 +28,7 @@ bare_of word =
     else (if bytes_eq word (codes "NoLink") then Some refusals.NoLink
     else (if bytes_eq word (codes "NoRank") then Some refusals.NoRank
     else (if bytes_eq word (codes "NotYours") then Some refusals.NotYours
-    else (if bytes_eq word (codes "Unbuilt") then Some refusals.Unbuilt
-    else None)))))))))))))))
+    else None))))))))))))))
 
 unfoldable pub state_or_none_of : List ℕ → ℕ → List (List ℕ) → Result (Option StateNote) LineError
 state_or_none_of word n fs =

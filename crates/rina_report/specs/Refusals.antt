@@ -51,7 +51,6 @@ refusal_word (refusals.Missing _) = codes "Missing"
 refusal_word (refusals.BadValue _) = codes "BadValue"
 refusal_word refusals.NoRank = codes "NoRank"
 refusal_word refusals.NotYours = codes "NotYours"
-refusal_word refusals.Unbuilt = codes "Unbuilt"
 
 -- the refusal is for bytes that are no CDAP message
 abbrev pub is_of_message : Refusal → Bool

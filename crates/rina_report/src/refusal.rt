@@ -80,6 +80,4 @@ pub enum Refusal {
     NoRank,
     /// The application is an IPC process.
     NotYours,
-    /// No facility refuses so: a word that notes may still have.
-    Unbuilt,
 }

@@ -135,7 +135,6 @@ const TEXTS: &str = "\
 12 1 no BadValue 3
 12 1 no NoRank
 12 1 no NotYours
-12 1 no Unbuilt
 12 1 no Busy w/a/1
 12 1 no Failed Cut 3
 13 1 state p closed

@@ -5,9 +5,10 @@ use Rattle.std.proofs.lemmas.Option.{same_Some, slice_get_within}
 use Rattle.rina_base.specs.declared.number.Port.{Port}
 use Rattle.rina_iface.specs.declared.ends.End.{End}
 use Rattle.rina_iface.specs.Journal.{AreKept, At}
-use Rattle.rina_iface.specs.Later.{AreLater, IsLater, IsLaterEnd}
+use Rattle.rina_iface.specs.Later.{AnswersOne, AreLater, IsLater, IsLaterEnd}
 use Rattle.rina_iface.specs.Seen.{Fac, Offer, Seen, Stands, cube_in, end_of, largest_at, with_fac}
 use Rattle.rina_iface.proofs.Changed.{set_at}
+use Rattle.rina_iface.proofs.FarEnds.{answers_old, answers_on}
 use Rattle.rina_iface.proofs.Found.{end_of_stands, found, its_port, stands_later, stands_there}
 use Rattle.rina_iface.proofs.Later.{later_refl}
 use Rattle.rina_iface.proofs.LaterOn.{later_on}
@@ -16,7 +17,7 @@ use Rattle.rina_data.specs.Configs.{Config}
 use Rattle.rina_dif_law.specs.Lifting.{IsLifted}
 use Rattle.rina_dif_law.specs.Standing.{IsInside}
 use Rattle.rina_data.proofs.Finding.{there}
-use Rattle.rina_tower.specs.Bystanders.{AnswersOne, Leaves, LeavesEnds, LeavesNow}
+use Rattle.rina_tower.specs.Bystanders.{Leaves, LeavesEnds, LeavesNow}
 
 -- The ends of one facility
 
@@ -200,39 +201,6 @@ lifted g who s s' kept kept' mine inside l = record {
 
 -- One after the other
 
--- an end that answers goes on to
-answers_on : (before now : ℕ) (es : List End) (e e' : End) → IsLaterEnd before now e e' → AnswersOne es e → AnswersOne es e'
-answers_on before now es e e' later f = record {
-  place = f.place;
-  asker = f.asker;
-  stands = f.stands;
-  far = later.role ∙ f.far;
-  partner = record { same_flow = f.partner.same_flow ∙ sym later.flow; other_role = λ same. f.partner.other_role (same ∙ later.role) };
-  named = record { peer = later.peer ∙ f.named.peer; its_peer = f.named.its_peer ∙ sym later.app; cube = f.named.cube ∙ sym later.cube };
-}
-
--- and one whose asker stands there answers one that stood there before: an asker is no far end, so that it is not new
-answers_old : (who : List ℕ → Type 0) (before now : ℕ) (xs ys : List End) (e : End) → AreLater before now xs ys → LeavesEnds who xs ys → who e.app ⊎ who e.peer → AnswersOne ys e → AnswersOne xs e
-answers_old who before now xs ys e later l mine f = elim (cases_lt f.place (length xs)) [
-  | inl within ↦
-      let a = there xs f.place within in
-      let m = later f.place a.0 a.1 in
-      let is : f.asker ≡ m.0 = same_Some f.asker m.0 (sym f.stands ∙ m.1) in
-      let same : IsLaterEnd before now a.0 f.asker = subst (λ (z : End). IsLaterEnd before now a.0 z) (sym is) m.2 in
-      record {
-        place = f.place;
-        asker = a.0;
-        stands = a.1;
-        far = f.far;
-        partner = record { same_flow = sym same.flow ∙ f.partner.same_flow; other_role = λ role. f.partner.other_role (same.role ∙ role) };
-        named = record { peer = f.named.peer ∙ same.app; its_peer = sym same.peer ∙ f.named.its_peer; cube = sym same.cube ∙ f.named.cube };
-      }
-  | inr past ↦
-      let its : who f.asker.app ⊎ who f.asker.peer = elim mine [ inl m ↦ inr (subst who (sym f.named.its_peer) m) | inr m ↦ inl (subst who f.named.peer m) ] in
-      let n = l.fresh f.place f.asker f.stands past its in
-      absurd (f.partner.other_role (n.far ∙ sym f.far))
-]
-
 pub ends_on : (who : List ℕ → Type 0) (b n b' n' : ℕ) (xs ys zs : List End) → AreLater b n xs ys → AreLater b' n' ys zs → LeavesEnds who xs ys → LeavesEnds who ys zs → LeavesEnds who xs zs
 ends_on who b n b' n' xs ys zs first second l k = record {
   stays = λ i e e' x z mine.
@@ -250,7 +218,9 @@ ends_on who b n b' n' xs ys zs first second l k = record {
         let same : e' ≡ o.0 = same_Some e' o.0 (sym z ∙ o.1) in
         let later : IsLaterEnd b' n' m.0 e' = subst (IsLaterEnd b' n' m.0) (sym same) o.2 in
         answers_on b' n' xs m.0 e' later (l.fresh i m.0 m.1 past (elim mine [ inl w ↦ inl (subst who later.app w) | inr w ↦ inr (subst who later.peer w) ]))
-    | inr after ↦ answers_old who b n xs ys e' first l mine (k.fresh i e' z after mine)
+    | inr after ↦
+        let f = k.fresh i e' z after mine in
+        answers_old b n xs ys e' first f (λ past. l.fresh f.place f.asker f.stands past (elim mine [ inl m ↦ inr (subst who (sym f.named.its_peer) m) | inr m ↦ inl (subst who f.named.peer m) ]))
   ];
   unsent = λ i e' z past mine. elim (cases_lt i (length ys)) [
     | inl within ↦

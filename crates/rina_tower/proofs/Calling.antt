@@ -91,7 +91,6 @@ allocates_alone who own s ask (Err (allocate.NoIds used)) s' app to w = same_alo
 allocates_alone who own s ask (Err (allocate.NoRoute dst)) s' app to w = same_alone who s s' w.1
 allocates_alone who own s ask (Err (allocate.Busy port)) s' app to w = same_alone who s s' w.1
 allocates_alone who own s ask (Err (allocate.CountSpent n k)) s' app to w = same_alone who s s' w.1
-allocates_alone who own s ask (Err allocate.Unbuilt) s' app to w = same_alone who s s' w.1
 
 pub binds_alone : (who : List ℕ → Type 0) (s : Seen) (fixed : Fixed) (r : Result (Port × Port) AllocateError) (s' : Seen) → (who fixed.a_app → ⊥) → (who fixed.b_app → ⊥) → Binds s fixed r s' → LeavesNow who s s'
 binds_alone who s fixed (Ok ports) s' a b w =
@@ -106,7 +105,6 @@ binds_alone who s fixed (Err (allocate.NoIds used)) s' a b w = absurd w
 binds_alone who s fixed (Err (allocate.NoRoute dst)) s' a b w = absurd w
 binds_alone who s fixed (Err (allocate.Busy port)) s' a b w = absurd w
 binds_alone who s fixed (Err (allocate.CountSpent n k)) s' a b w = absurd w
-binds_alone who s fixed (Err allocate.Unbuilt) s' a b w = absurd w
 
 -- SDUs: all are left alone but the application of the port
 

@@ -122,7 +122,7 @@ silent_alone difs now n d d' clock same at silent =
     let later : IsLaterFac now now (fac_of_dif d) (fac_of_dif d') = subst (λ (t : ℕ). IsLaterFac t now (fac_of_dif d) (fac_of_dif d')) clock (subst (λ (t : ℕ). IsLaterFac d.clock t (fac_of_dif d) (fac_of_dif d')) (same ∙ clock) silent.later) in
     let ends : LeavesEnds Anyone (fac_of_dif d).ends (fac_of_dif d').ends = record {
       stays = λ i e e' x y mine. silent.same i e e' x y;
-      fresh = λ i e' y past mine. (let f = silent.fresh i e' y past in record { place = f.place; asker = f.asker; stands = f.stands; far = f.far; partner = f.partner; named = f.named });
+      fresh = λ i e' y past mine. (silent.fresh i e' y past).answers;
       unsent = λ i e' y past mine. (let f = silent.fresh i e' y past in (f.sent, f.taken));
     } in
     subst (λ (z : Seen). LeavesNow Anyone s z) (sym (shown_after difs n d' now)) (fac_alone Anyone s n (fac_of_dif d) (fac_of_dif d') here (later_fac s n (fac_of_dif d) (fac_of_dif d') here later) ends)

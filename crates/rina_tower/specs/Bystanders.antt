@@ -2,9 +2,8 @@
 use Rattle.std.specs.Prelude.{◌≡◌, ℕ, ◌≤◌, ◌⊎◌, Bool, true, List, [], length, slice_get, is_some, Some}
 use Rattle.rina_base.specs.Names.{slash_in}
 use Rattle.rina_iface.specs.declared.ends.End.{End}
-use Rattle.rina_iface.specs.declared.state.Role.TheVariants.{Far}
-use Rattle.rina_iface.specs.Journal.{At, IsNamed, IsPartner}
-use Rattle.rina_iface.specs.Later.{IsLater}
+use Rattle.rina_iface.specs.Journal.{At}
+use Rattle.rina_iface.specs.Later.{AnswersOne, IsLater}
 use Rattle.rina_iface.specs.Seen.{Fac, Seen}
 
 -- an IPC process has this name: one with a slash
@@ -17,15 +16,6 @@ IsIpc name = is_ipc name ≡ true
 -- whoever it may be
 abbrev pub Anyone : List ℕ → Type 0
 Anyone name = Unit {0}
-
--- the far end of a flow whose asker stands among these ends
-pub record AnswersOne (ends : List End) (e : End) : Type 0 where
-  pub place : ℕ
-  pub asker : End
-  pub stands : At ends place asker
-  pub far : e.role ≡ Far
-  pub partner : IsPartner e asker
-  pub named : IsNamed e asker
 
 -- no end of these applications sent or passed anything, and a new end of one of them, or with one of them as its peer, is the far end of
 -- a flow whose asker stood there

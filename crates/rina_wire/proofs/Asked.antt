@@ -6,7 +6,7 @@ use Rattle.std.proofs.lemmas.Option.{none-some}
 use Rattle.rina_base.specs.declared.number.Port.{Port}
 use Rattle.rina_iface.specs.declared.ask.Ask.{Ask}
 use Rattle.rina_iface.specs.declared.error.AllocateError.{AllocateError}
-use Rattle.rina_iface.specs.declared.error.AllocateError.TheVariants.{Memory, NoMember, NoCube, NoSuchApp, SameSystem, NoIds, NoRoute, Busy, CountSpent, Unbuilt}
+use Rattle.rina_iface.specs.declared.error.AllocateError.TheVariants.{Memory, NoMember, NoCube, NoSuchApp, SameSystem, NoIds, NoRoute, Busy, CountSpent}
 use Rattle.rina_iface.specs.declared.state.PortState.TheVariants.{Allocated}
 use Rattle.rina_iface.specs.Ends.{drawn_at}
 use Rattle.rina_iface.specs.Seen.{is_member, meets, offered}
@@ -89,4 +89,3 @@ seen_allocates a ask (Err (NoIds used)) a' s g = (refused_is a ask ∙ g.refused
 seen_allocates a ask (Err (NoRoute dst)) a' s g = (refused_is a ask ∙ g.refused, ap seen_of g.air)
 seen_allocates a ask (Err (Busy port)) a' s g = (refused_is a ask ∙ g.refused, ap seen_of g.air)
 seen_allocates a ask (Err (CountSpent n k)) a' s g = (refused_is a ask ∙ g.refused, ap seen_of g.air)
-seen_allocates a ask (Err Unbuilt) a' s g = (refused_is a ask ∙ g.refused, ap seen_of g.air)

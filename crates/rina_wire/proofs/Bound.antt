@@ -5,7 +5,7 @@ use Rattle.std.proofs.lemmas.Bool.Decides.{eqb_tells}
 use Rattle.rina_base.specs.declared.number.Port.{Port}
 use Rattle.rina_iface.specs.declared.ask.Fixed.{Fixed}
 use Rattle.rina_iface.specs.declared.error.AllocateError.{AllocateError}
-use Rattle.rina_iface.specs.declared.error.AllocateError.TheVariants.{Memory, NoMember, NoCube, NoSuchApp, SameSystem, NoIds, NoRoute, Busy, CountSpent, Unbuilt}
+use Rattle.rina_iface.specs.declared.error.AllocateError.TheVariants.{Memory, NoMember, NoCube, NoSuchApp, SameSystem, NoIds, NoRoute, Busy, CountSpent}
 use Rattle.rina_iface.specs.Bind.{Binds, CanBind, IsBound, bound}
 use Rattle.rina_iface.specs.Ends.{drawn_at}
 use Rattle.rina_iface.specs.Seen.{Fac, Offer, cube_in, is_member, with_fac}
@@ -109,4 +109,3 @@ seen_binds a fixed (Err (NoIds used)) a' s c g = g
 seen_binds a fixed (Err (NoRoute dst)) a' s c g = g
 seen_binds a fixed (Err (Busy port)) a' s c g = g
 seen_binds a fixed (Err (CountSpent n k)) a' s c g = g
-seen_binds a fixed (Err Unbuilt) a' s c g = g

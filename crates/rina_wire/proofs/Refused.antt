@@ -38,4 +38,3 @@ asks_refused a ask (asks.NoIds used) other goes = goes
 asks_refused a ask (asks.NoRoute dst) other goes = goes
 asks_refused a ask (asks.Busy port) other goes = goes
 asks_refused a ask (asks.CountSpent need left) other goes = goes
-asks_refused a ask asks.Unbuilt other goes = goes

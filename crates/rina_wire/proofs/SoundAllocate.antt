@@ -14,7 +14,7 @@ use Rattle.rina_iface.specs.Allocate.{asker_end, far_end}
 use Rattle.rina_wire.specs.Allocate.{flow_on, port_on}
 use Rattle.rina_wire.proofs.Sound.{C, one_at, sound_failed, sound_on_wire}
 use Rattle.rina_iface.specs.declared.error.AllocateError.{AllocateError}
-use Rattle.rina_iface.specs.declared.error.AllocateError.TheVariants.{Memory, NoMember, NoCube, NoSuchApp, SameSystem, NoIds, NoRoute, Busy, CountSpent, Unbuilt}
+use Rattle.rina_iface.specs.declared.error.AllocateError.TheVariants.{Memory, NoMember, NoCube, NoSuchApp, SameSystem, NoIds, NoRoute, Busy, CountSpent}
 use Rattle.rina_iface.specs.Seen.{is_member}
 use Rattle.rina_iface.specs.Allocate.{refused_in}
 use Rattle.rina_wire.specs.Air.{fac_of}
@@ -84,4 +84,3 @@ sound_allocates a ask (Err (NoIds used)) a' s g = subst IsSound (sym g.air) s
 sound_allocates a ask (Err (NoRoute dst)) a' s g = subst IsSound (sym g.air) s
 sound_allocates a ask (Err (Busy port)) a' s g = subst IsSound (sym g.air) s
 sound_allocates a ask (Err (CountSpent n k)) a' s g = subst IsSound (sym g.air) s
-sound_allocates a ask (Err Unbuilt) a' s g = subst IsSound (sym g.air) s

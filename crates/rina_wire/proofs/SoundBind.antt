@@ -6,7 +6,7 @@ use Rattle.rina_base.specs.declared.number.Port.{Port}
 use Rattle.rina_iface.specs.declared.ask.Ask.{Ask}
 use Rattle.rina_iface.specs.declared.ask.Fixed.{Fixed}
 use Rattle.rina_iface.specs.declared.error.AllocateError.{AllocateError}
-use Rattle.rina_iface.specs.declared.error.AllocateError.TheVariants.{Memory, NoMember, NoCube, NoSuchApp, SameSystem, NoIds, NoRoute, Busy, CountSpent, Unbuilt}
+use Rattle.rina_iface.specs.declared.error.AllocateError.TheVariants.{Memory, NoMember, NoCube, NoSuchApp, SameSystem, NoIds, NoRoute, Busy, CountSpent}
 use Rattle.rina_iface.specs.Bind.{CanBind, with_name_once}
 use Rattle.rina_iface.specs.Seen.{is_member}
 use Rattle.rina_wire.specs.Air.{Air, Line, seen_of, wire_at}
@@ -63,4 +63,3 @@ sound_binds a fixed (Err (NoIds used)) a' s c g = absurd g
 sound_binds a fixed (Err (NoRoute dst)) a' s c g = absurd g
 sound_binds a fixed (Err (Busy port)) a' s c g = absurd g
 sound_binds a fixed (Err (CountSpent n k)) a' s c g = absurd g
-sound_binds a fixed (Err Unbuilt) a' s c g = absurd g

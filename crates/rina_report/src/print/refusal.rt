@@ -65,7 +65,6 @@ fn word(why: &Refusal) -> &'static [u8]
         Refusal::LinksFull { .. } => b"LinksFull",
         Refusal::NoRank => b"NoRank",
         Refusal::NotYours => b"NotYours",
-        Refusal::Unbuilt => b"Unbuilt",
         _ => message_word(why),
     }
 }

@@ -47,8 +47,6 @@ fn bare(word: &[u8]) -> Option<Refusal>
         Some(Refusal::NoRank)
     } else if is(word, b"NotYours") {
         Some(Refusal::NotYours)
-    } else if is(word, b"Unbuilt") {
-        Some(Refusal::Unbuilt)
     } else {
         None
     }

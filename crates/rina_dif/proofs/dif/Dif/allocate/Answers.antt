@@ -1,8 +1,18 @@
 use Rattle.std.proofs.Common.{◌≡◌, ◌∙◌, ap, false, refl}
 use Rattle.rina_dif.specs.declared.dif.Dif.{Dif}
-use Rattle.rina_dif.proofs.AskCalls.{asks_go_on, asks_noted, asks_shown, asks_stay, asks_valid}
+use Rattle.rina_dif.proofs.AskCalls.{asks_go_on, asks_none, asks_noted, asks_shown, asks_stay, asks_valid}
 use Rattle.rina_dif.proofs.Facing.{same_goes_on, unchanged}
 use Rattle.rina_dif.proofs.dif.Dif.allocate.Goals as goal
+
+pub returns-then-self-clause-does : goal.returns-then-self-clause-does
+returns-then-self-clause-does c = asks_none c.args.self.now c.args.ask.now
+
+pub returns-clause-does : goal.returns-clause-does
+returns-clause-does c =
+    let d = c.args.self.now in
+    let d' = c.ask_for-result.new.self in
+    let alive : d'.failed ≡ false = ap (λ (z : Dif). z.failed) c.ask_for-result.ensures.whole ∙ c.if-self.false in
+    asks_noted d c.args.ask.now c.ask_for-result.result d' c.wants_memory-self.result alive c.ask_for-result.ensures.does
 
 pub returns-then-self-clause-shown : goal.returns-then-self-clause-shown
 returns-then-self-clause-shown c = λ s h fac. unchanged s c.args.ask.now.fac c.args.self.now c.args.self.now h refl

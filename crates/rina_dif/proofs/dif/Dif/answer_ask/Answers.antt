@@ -1,4 +1,5 @@
 use Rattle.std.proofs.Common.{◌∙◌, ◌<◌, arith, refl, sym, inr, Ok, Some, ap}
+use Rattle.std.proofs.lemmas.Bool.{false≢true}
 use Rattle.std.proofs.lemmas.Result.{err_from_is_err_and}
 use Rattle.rina_alloc.specs.Machines.{asked_does}
 use Rattle.rina_data.proofs.Finding.{there}
@@ -8,7 +9,7 @@ use Rattle.rina_dif.proofs.FlowWalk.{leaves_none, leaves_same}
 use Rattle.rina_dif.proofs.dif.Dif.answer_ask.Goals as goal
 
 pub returns-then-not-is_enrolled_at-clause-does : goal.returns-then-not-is_enrolled_at-clause-does
-returns-then-not-is_enrolled_at-clause-does c = λ lines below h. inr refl
+returns-then-not-is_enrolled_at-clause-does c = λ lines below h. inr ((λ m is home. false≢true (sym c.if-not-is_enrolled_at.true ∙ (c.is_enrolled_at.ensures m is).1 home)), refl)
 
 pub unreachable-requires : goal.unreachable-requires
 unreachable-requires c =

@@ -1,6 +1,6 @@
 use Rattle.std.proofs.Common.{◌≡◌, ◌∙◌, arith, ap, sym, Some}
 use Rattle.std.proofs.lemmas.Option.{slice_get_within}
-use Rattle.rina_dif.proofs.AnswersIn.{place_waits, takes_refusal, takes_yes, turned_away, whole_away, whole_refused, whole_yes}
+use Rattle.rina_dif.proofs.AnswersIn.{place_waits, takes_refusal, takes_yes, turned_away, whole_away, whole_refused}
 use Rattle.rina_dif.specs.declared.dif.Dif.{Dif}
 use Rattle.rina_dif.proofs.FlowWalk.{leaves_same}
 use Rattle.rina_dif.proofs.dif.Dif.take_answer.Goals as goal
@@ -36,7 +36,7 @@ pub returns-clause-does : goal.returns-clause-does
 returns-clause-does c = λ lines below h. takes_yes c.args.self.now lines below c.args.at c.args.from c.args.invoke c.in-Some.which c.args.answer c.in-Some.ensures c.index.result.now c.index.ensures c.take_yes.result c.take_yes.new.self c.dcep.result (sym c.why_of.ensures ∙ c.in_default-why_of.is) c.dcep.ensures (c.take_yes.ensures.does lines below h)
 
 pub returns-clause-whole : goal.returns-clause-whole
-returns-clause-whole c = whole_yes c.args.self.now c.take_yes.new.self c.take_yes.ensures.whole
+returns-clause-whole c = c.take_yes.ensures.whole
 
 pub returns-in_default-clause-leaves : goal.returns-in_default-clause-leaves
 returns-in_default-clause-leaves c = leaves_same (Some c.args.at) c.args.self.now c.turn_away.new.self (ap (λ (z : Dif). z.flows) c.turn_away.ensures.whole) (ap (λ (z : Dif). z.processes) c.turn_away.ensures.whole)
