@@ -1,5 +1,5 @@
 -- A member that is asked answers: by its grounds, and with the far end where it answers yes.
-use Rattle.std.proofs.Common.{◌≡◌, ◌∙◌, ◌↔◌, ◌⊎◌, ℕ, ◌+◌, ◌-◌, ◌*◌, ◌^◌, ◌<◌, ◌≤◌, Bool, true, false, IsTrue, List, length, slice_get, Option, Some, None, Result, Ok, Err, OnErr, OnOk, refl, sym, ap, subst, arith, inl, inr}
+use Rattle.std.proofs.Common.{◌≡◌, ◌∙◌, ◌↔◌, ℕ, ◌+◌, ◌-◌, ◌*◌, ◌^◌, ◌<◌, ◌≤◌, Bool, true, false, IsTrue, List, length, slice_get, Option, Some, None, Result, Ok, Err, OnErr, OnOk, refl, sym, ap, subst, arith, inl, inr}
 use Rattle.std.proofs.lemmas.Bool.{false≢true, leb-false}
 use Rattle.std.proofs.lemmas.List.{length-map}
 use Rattle.std.proofs.lemmas.Option.{same_Some}
@@ -34,7 +34,7 @@ use Rattle.rina_dif.specs.declared.dif.Dif.{Dif}
 use Rattle.rina_dif.specs.declared.far_ends.Grounds.{Grounds}
 use Rattle.rina_dif.specs.Allocating.{spent_ids}
 use Rattle.rina_dif.specs.Elsewhere.{enrolled_home}
-use Rattle.rina_dif.specs.FarMaking.{Accepts, AcceptsAt, AcceptsOr, AcceptsOrNot, Answers, AnswersBy, CanMakeFar, Decides, FindsAsker, FindsJoinable, FitsNext, HandlesAsk, HasMadeFar, IsAskerOf, IsGrounds, MayAccept, MayHaveMade, SendsAnswer, answer_by, answer_told, is_aged_by, is_here_by, is_yes, next_cep, unless_spent}
+use Rattle.rina_dif.specs.FarMaking.{Accepts, AcceptsAt, AcceptsOr, AcceptsOrNot, Answers, AnswersBy, CanMakeFar, Decides, FindsJoinable, FitsNext, HandlesAsk, HasMadeFar, IsAskerOf, IsGrounds, MayAccept, MayHaveMade, SendsAnswer, answer_by, answer_told, is_aged_by, is_here_by, is_yes, next_cep, unless_spent}
 use Rattle.rina_dif.specs.Freeing.{IsKept}
 use Rattle.rina_dif.specs.Holding.{Holds}
 use Rattle.rina_dif.specs.Posting.{message_of, posted, posts}

@@ -1,10 +1,9 @@
 -- The answer of yes binds the end that asked, where its far end stands.
-use Rattle.std.proofs.Common.{◌≡◌, ◌∙◌, ℕ, ◌<◌, List, length, slice_get, slice_set, Some, Result, Err, refl, sym, ap, subst, arith}
+use Rattle.std.proofs.Common.{◌≡◌, ◌∙◌, ℕ, ◌<◌, List, length, slice_get, Some, Result, Err, refl, sym, ap, subst, arith}
 use Rattle.std.proofs.lemmas.Option.{same_Some, slice_get_within}
 use Rattle.rina_base.specs.declared.memory.Memory.{Memory}
 use Rattle.rina_conn.specs.declared.conn.Conn.{Conn}
 use Rattle.rina_iface.specs.declared.ends.End.{End}
-use Rattle.rina_iface.specs.declared.state.PortState.TheVariants.{Allocated}
 use Rattle.rina_iface.specs.declared.state.Role.TheVariants.{Asker, Far}
 use Rattle.rina_iface.specs.Journal.{At, IsPartner}
 use Rattle.rina_iface.specs.Seen.{Seen}
@@ -20,7 +19,7 @@ use Rattle.rina_dif_law.proofs.Own.{partner_back}
 use Rattle.rina_member.specs.declared.management.Management.{Management}
 use Rattle.rina_flows.specs.declared.flows.Flows.{Flows}
 use Rattle.rina_flows.specs.Adding.{Binds, CanBind, HasBound}
-use Rattle.rina_flows.specs.Tied.{conns_of, ids_of}
+use Rattle.rina_flows.specs.Tied.{ids_of}
 use Rattle.rina_flows.proofs.Framed.{ids_at}
 use Rattle.rina_dif.specs.declared.dif.Dif.{Dif}
 use Rattle.rina_dif.specs.Changing.{with_flow_at}

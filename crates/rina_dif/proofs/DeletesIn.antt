@@ -1,10 +1,9 @@
 -- A member closes its end of a flow that was given up: the DIF holds.
-use Rattle.std.proofs.Common.{◌≡◌, ◌∙◌, ◌↔◌, ◌⊎◌, ℕ, ◌+◌, ◌<◌, ◌≤◌, Bool, IsTrue, true, false, List, length, slice_get, Option, Some, None, Result, refl, sym, ap, subst, arith, inl, inr, option_map}
+use Rattle.std.proofs.Common.{◌≡◌, ◌∙◌, ◌↔◌, ℕ, ◌+◌, ◌<◌, ◌≤◌, Bool, IsTrue, true, false, List, length, slice_get, Option, Some, Result, refl, sym, ap, subst, arith, inl, inr, option_map}
 use Rattle.std.proofs.lemmas.Bool.{cases_lt, false≢true}
 use Rattle.std.proofs.lemmas.Option.{same_Some, slice_get-map, slice_get_within}
 use Rattle.rina_base.specs.declared.memory.Memory.{Memory}
 use Rattle.rina_conn.specs.declared.conn.Conn.{Conn}
-use Rattle.rina_conn.specs.declared.form.Peer.{Peer}
 use Rattle.rina_data.specs.declared.settings.Member.{Member}
 use Rattle.rina_data.specs.Configs.{config_of, member_of}
 use Rattle.rina_flows.specs.Tied.{conns_of, ids_of}
@@ -13,7 +12,7 @@ use Rattle.rina_iface.specs.declared.state.PortState.TheVariants.{Allocated}
 use Rattle.rina_iface.specs.Seen.{Seen}
 use Rattle.rina_law.specs.Direction.{Direction}
 use Rattle.rina_dif.specs.declared.dif.Dif.{Dif}
-use Rattle.rina_dif.specs.DeletesIn.{ClosesUp, FindsUp, IsBetween, IsFirstUp, IsUpAt, NoneUp, TakesDelete}
+use Rattle.rina_dif.specs.DeletesIn.{ClosesUp, IsBetween, IsFirstUp, IsUpAt, NoneUp, TakesDelete}
 use Rattle.rina_dif.specs.Elsewhere.{home_of}
 use Rattle.rina_dif.specs.FlowEnds.{ClosesManaged}
 use Rattle.rina_dif.specs.Freeing.{FreesHere}

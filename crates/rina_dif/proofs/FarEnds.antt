@@ -1,5 +1,5 @@
 -- A member makes the far end of a flow whose asker's end it found.
-use Rattle.std.proofs.Common.{◌≡◌, ◌≢◌, ◌∙◌, ℕ, ◌+◌, ◌*◌, ◌^◌, ◌<◌, List, [], ◌∷◌, ◌++◌, map, slice_get, slice_set, length, Option, Some, None, option_map, refl, sym, ap, subst}
+use Rattle.std.proofs.Common.{◌≡◌, ◌≢◌, ◌∙◌, ℕ, ◌+◌, ◌*◌, ◌<◌, List, [], ◌∷◌, ◌++◌, slice_set, length, Some, option_map, refl, sym, ap, subst}
 use Rattle.std.specs.Global.{Vec}
 use Rattle.std.specs.Prelude.{option_and_then}
 use Rattle.std.proofs.lemmas.Option.{same_Some, slice_get-map}
@@ -15,14 +15,12 @@ use Rattle.rina_iface.specs.declared.state.PortState.TheVariants.{Allocated}
 use Rattle.rina_iface.specs.declared.state.Role.{Role}
 use Rattle.rina_iface.specs.declared.state.Role.TheVariants.{Asker, Far}
 use Rattle.rina_iface.specs.Allocate.{new_end, next_port}
-use Rattle.rina_iface.specs.Journal.{At, HasPartner}
+use Rattle.rina_iface.specs.Journal.{HasPartner}
 use Rattle.rina_iface.specs.Seen.{Seen}
-use Rattle.rina_law.specs.Constants.{Constants}
 use Rattle.rina_law.specs.Direction.{Direction, start}
-use Rattle.rina_data.specs.declared.settings.Member.{Member as Kept}
-use Rattle.rina_data.specs.Configs.{Config, Member, config_of, cube_by, greatest, member_of, piece_size}
+use Rattle.rina_data.specs.Configs.{Config, config_of, cube_by, greatest, member_of, piece_size}
 use Rattle.rina_dif_law.specs.Answering.{IsFarMade, far_end_of, with_far_cep}
-use Rattle.rina_dif_law.specs.Dif.{DifSeen, constants, fac_of}
+use Rattle.rina_dif_law.specs.Dif.{DifSeen, fac_of}
 use Rattle.rina_dif_law.specs.Ids.{Ids, flipped}
 use Rattle.rina_dif_law.specs.Lifting.{ticked}
 use Rattle.rina_dif_law.specs.Standing.{IsConn}

@@ -1,5 +1,5 @@
 -- Looks for the ends of a flow.
-use Rattle.std.proofs.Common.{◌≡◌, ◌∙◌, ◌↔◌, ℕ, zero, suc, ◌+◌, ◌<◌, ◌≤◌, Bool, true, false, IsTrue, not, List, length, slice_get, Option, Some, None, refl, sym, ap, subst, arith, inl, inr}
+use Rattle.std.proofs.Common.{◌≡◌, ◌∙◌, ◌↔◌, ℕ, ◌+◌, ◌<◌, ◌≤◌, Bool, true, false, IsTrue, not, List, length, slice_get, Option, Some, None, refl, sym, ap, subst, arith, inl, inr}
 use Rattle.std.proofs.lemmas.Bool.{false≢true}
 use Rattle.std.proofs.lemmas.Bool.Decides.{eqb_tells}
 use Rattle.std.proofs.lemmas.Option.{slice_get_within}
@@ -9,7 +9,6 @@ use Rattle.rina_conn.specs.declared.conn.Conn.{Conn}
 use Rattle.rina_iface.specs.declared.ends.End.{End}
 use Rattle.rina_iface.specs.declared.state.Role.TheVariants.{Far}
 use Rattle.rina_iface.specs.Journal.{At}
-use Rattle.rina_flows.specs.Tied.{IsAt}
 use Rattle.rina_dif.specs.declared.dif.Dif.{Dif}
 use Rattle.rina_dif.specs.FarMaking.{AsksFor, FindsAsker, HasFar, IsAskerOf, LeadsTo}
 

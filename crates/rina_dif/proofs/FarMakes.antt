@@ -1,5 +1,5 @@
 -- What the making of a far end leaves.
-use Rattle.std.proofs.Common.{◌≡◌, ◌∙◌, ℕ, ◌≤◌, List, [], ◌∷◌, ◌++◌, length, slice_get, Option, Some, None, Result, Ok, Err, refl, sym, ap, subst}
+use Rattle.std.proofs.Common.{◌≡◌, ◌∙◌, ℕ, ◌≤◌, List, [], ◌∷◌, ◌++◌, length, Some, Result, Ok, Err, refl, sym, ap, subst}
 use Rattle.std.specs.Global.{Vec}
 use Rattle.std.specs.Prelude.{option_and_then}
 use Rattle.rina_alloc.specs.declared.message.FlowAsk.{FlowAsk}
@@ -27,7 +27,7 @@ use Rattle.rina_dif.specs.Whole.{IsDif}
 use Rattle.rina_dif.proofs.Claimed.{holds_claimed, with_waiting}
 use Rattle.rina_dif.proofs.FarEnds.{lines_made, made, made_cep, made_holds}
 use Rattle.rina_dif.proofs.Managed.{changed_agents}
-use Rattle.rina_dif.proofs.Showing.{holds_shown, managing}
+use Rattle.rina_dif.proofs.Showing.{holds_shown}
 
 -- nothing is seen to change
 pub kept_same : (d : Dif) (lines : List Direction) (below : Seen) → Holds d lines below → IsKept d lines below d

@@ -1,5 +1,5 @@
 -- A flow is given up: its far end is told first, and then it ends at this one.
-use Rattle.std.proofs.Common.{◌≡◌, ◌∙◌, ◌↔◌, ℕ, ◌<◌, Bool, IsTrue, true, false, List, length, slice_get, Option, Some, None, Result, Ok, Err, arith, refl, sym, ap, subst, inl, inr}
+use Rattle.std.proofs.Common.{◌≡◌, ◌∙◌, ℕ, ◌<◌, Bool, true, false, List, length, slice_get, Option, Some, None, Result, Ok, Err, arith, refl, sym, ap, subst, inr}
 use Rattle.std.proofs.lemmas.Bool.{false≢true}
 use Rattle.rina_base.specs.declared.memory.Memory.{Memory}
 use Rattle.rina_base.specs.declared.number.Num.{Num}
@@ -15,7 +15,7 @@ use Rattle.rina_data.specs.Configs.{config_of}
 use Rattle.rina_data.proofs.Finding.{there}
 use Rattle.rina_flows.specs.declared.due.Item.TheVariants.{GiveUp}
 use Rattle.rina_flows.specs.Tied.{outward}
-use Rattle.rina_flows.specs.Timely.{DueIn, GivesNoneUp, IsDue}
+use Rattle.rina_flows.specs.Timely.{DueIn, IsDue}
 use Rattle.rina_member.specs.declared.management.Management.{Management}
 use Rattle.rina_dif.specs.declared.dif.Dif.{Dif}
 use Rattle.rina_dif.specs.Changing.{EndsFlow, without_flow_at}
@@ -24,7 +24,6 @@ use Rattle.rina_dif.specs.FlowEnds.{ClosesManaged, FailsManaged, FreesManaged, G
 use Rattle.rina_dif.specs.Freeing.{FreesHere}
 use Rattle.rina_dif.specs.Holding.{Holds}
 use Rattle.rina_dif.specs.Posting.{posts}
-use Rattle.rina_dif.specs.Shown.{seen_of}
 use Rattle.rina_dif.specs.Timely.{GivesUpAs, IsHomeEnd}
 use Rattle.rina_dif.specs.Whole.{IsDif}
 use Rattle.rina_dif.proofs.Showing.{managing}

@@ -1,11 +1,10 @@
 -- A DIF holds on as the far end of a flow is made, as the answer comes to the asker, and as the asker's end ends while it waits.
-use Rattle.std.proofs.Common.{◌≡◌, ◌∙◌, ℕ, List, [], ◌∷◌, ◌++◌, slice_get, slice_set, Option, Some, refl, sym, ap, subst, arith, inl, inr}
+use Rattle.std.proofs.Common.{◌≡◌, ◌∙◌, ℕ, List, slice_get, Option, Some, sym, ap, arith, inl, inr}
 use Rattle.std.specs.Global.{Vec}
 use Rattle.rina_iface.specs.declared.ends.End.{End}
 use Rattle.rina_iface.specs.declared.state.Fail.{Fail}
 use Rattle.rina_iface.specs.declared.state.PortState.{PortState}
-use Rattle.rina_iface.specs.declared.state.PortState.TheVariants.{Allocated, Failed}
-use Rattle.rina_iface.specs.Journal.{At}
+use Rattle.rina_iface.specs.declared.state.PortState.TheVariants.{Failed}
 use Rattle.rina_iface.specs.Seen.{Seen}
 use Rattle.rina_iface.proofs.Changed.{set_at, slice_get-set_other}
 use Rattle.rina_iface.proofs.Grown.{pushed_at, still_at}

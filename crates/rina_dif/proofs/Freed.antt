@@ -1,5 +1,5 @@
 -- A flow of a DIF is freed at one of its ends.
-use Rattle.std.proofs.Common.{◌≡◌, ◌≢◌, ◌∙◌, ℕ, ◌+◌, ◌*◌, ◌<◌, true, false, List, length, length-set, map, slice_get, slice_set, Option, Some, None, Result, Ok, Err, refl, sym, ap, subst, arith, inl, inr}
+use Rattle.std.proofs.Common.{◌≡◌, ◌≢◌, ◌∙◌, ℕ, ◌+◌, ◌<◌, true, false, List, length, length-set, map, slice_get, slice_set, Option, Some, None, Result, Ok, Err, refl, sym, ap, subst, arith, inl, inr}
 use Rattle.std.specs.Result.{is_err}
 use Rattle.rina_account.specs.declared.ledger.Off.{Off}
 use Rattle.rina_base.specs.declared.memory.Memory.{Memory as NoMemory}
@@ -29,9 +29,9 @@ use Rattle.rina_data.specs.Configs.{Config, config_of}
 use Rattle.rina_data.specs.Deciding.{process_of}
 use Rattle.rina_dif_law.specs.Dif.{DifSeen, fac_of}
 use Rattle.rina_dif_law.specs.Ending.{GivesBack, IsEnded}
-use Rattle.rina_dif_law.specs.Numbered.{AreDrawn, IsNumbered}
+use Rattle.rina_dif_law.specs.Numbered.{IsNumbered}
 use Rattle.rina_dif_law.specs.Sending.{home}
-use Rattle.rina_dif_law.specs.Standing.{IsConn, IsOfFlow, IsOwn, IsStanding}
+use Rattle.rina_dif_law.specs.Standing.{IsOwn, IsStanding}
 use Rattle.rina_dif_law.proofs.After.{NoMore, after_none}
 use Rattle.rina_dif_law.proofs.Carrying.{carrying_same, end_set, line_was}
 use Rattle.rina_dif_law.proofs.Finding.{beside}
@@ -41,9 +41,8 @@ use Rattle.rina_dif_law.proofs.Journals.{IsConst, const_refl, journal_set, partn
 use Rattle.rina_dif_law.proofs.Keepers.{facility}
 use Rattle.rina_dif_law.proofs.Numbering.{ended_numbered, numbered_with}
 use Rattle.rina_dif_law.specs.Places.{IsUp}
-use Rattle.rina_dif_law.proofs.OwnEnds.{own_ended, own_restated}
-use Rattle.rina_dif_law.proofs.HeldIds.{ended_held, rest_drawn}
-use Rattle.rina_dif_law.proofs.Receiving.{ended_accounted, reheld_accounted, restated_accounted}
+use Rattle.rina_dif_law.proofs.OwnEnds.{own_restated}
+use Rattle.rina_dif_law.proofs.Receiving.{ended_accounted, restated_accounted}
 use Rattle.rina_dif_law.specs.WriteOffLaws.{Nothing}
 use Rattle.rina_dif_law.specs.Written.{AreWrittenOff}
 use Rattle.rina_dif_law.proofs.Warranted.{ended_written}
@@ -57,11 +56,9 @@ use Rattle.rina_dif.specs.declared.dif.Dif.{Dif}
 use Rattle.rina_dif.specs.declared.release.IdRest.{IdRest}
 use Rattle.rina_ids.specs.Ids.{IsInUse}
 use Rattle.rina_ids.specs.Members.{CepIds, with_rest}
-use Rattle.rina_cube.specs.Cubes.{delta_of}
-use Rattle.rina_rest.specs.Naming.{Naming}
 use Rattle.rina_dif_law.specs.Accounted.{IsAccounted}
 use Rattle.rina_dif.specs.Facade.{GoesOn, IsShownAs, StaysStanding, shown_as}
-use Rattle.rina_dif.specs.Freeing.{FreesAt, FreesEnd, FreesHere, IsFreed, IsKept, IsWithdrawn, RestsAt}
+use Rattle.rina_dif.specs.Freeing.{FreesAt, FreesEnd, FreesHere, IsFreed, IsKept, RestsAt}
 use Rattle.rina_dif.specs.Holding.{Holds, Stands}
 use Rattle.rina_dif.specs.Shown.{seen_of}
 use Rattle.rina_dif.specs.Timely.{WithLedger}

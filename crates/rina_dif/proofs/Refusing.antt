@@ -1,5 +1,5 @@
 -- What the enrolled member at a node refuses to an ask, one cause after the other.
-use Rattle.std.proofs.Common.{◌≡◌, ◌∙◌, ℕ, Bool, true, false, cond, slice_get, Option, Some, None, Result, option_and_then, refl, sym, ap, subst}
+use Rattle.std.proofs.Common.{◌≡◌, ◌∙◌, ℕ, Bool, true, cond, slice_get, Option, Some, None, Result, option_and_then, refl, sym, ap, subst}
 use Rattle.std.specs.Option.{is_some}
 use Rattle.std.proofs.lemmas.Bool.{false≢true}
 use Rattle.rina_iface.specs.declared.ask.Ask.{Ask}

@@ -1,5 +1,5 @@
 -- A DIF stands as before where members show other objects.
-use Rattle.std.proofs.Common.{◌≡◌, ◌∙◌, ℕ, ◌+◌, ◌<◌, true, false, zero, suc, add-one, arith, take, List, [], ◌∷◌, ◌++◌, Contains, length, map, slice_get, Option, Some, None, Result, Ok, Err, refl, sym, ap, subst}
+use Rattle.std.proofs.Common.{◌≡◌, ◌∙◌, ℕ, ◌+◌, ◌<◌, true, false, zero, suc, add-one, arith, take, List, [], ◌∷◌, ◌++◌, Contains, map, slice_get, Option, Some, None, Result, Ok, Err, refl, sym, ap, subst}
 use Rattle.rina_data.specs.declared.settings.Member.{Member}
 use Rattle.std.specs.List.{cons_option, filter_map, zip}
 use Rattle.std.proofs.lemmas.Bool.{false≢true}
@@ -19,8 +19,6 @@ use Rattle.rina_iface.specs.declared.error.AllocateError.TheVariants.{Memory as 
 use Rattle.rina_iface.specs.Ends.{drawn_at}
 use Rattle.rina_iface.specs.Seen.{Seen}
 use Rattle.rina_law.specs.Direction.{Direction}
-use Rattle.rina_iface.specs.declared.state.PortState.{PortState}
-use Rattle.rina_iface.specs.declared.state.PortState.TheVariants.{Allocated}
 use Rattle.rina_data.specs.Configs.{member_of}
 use Rattle.rina_dif_law.specs.Dif.{DifSeen}
 use Rattle.rina_data.proofs.Finding.{there}
@@ -32,7 +30,6 @@ use Rattle.rina_member.proofs.Lists.{is_there}
 use Rattle.rina_dif.specs.declared.dif.Dif.{Dif}
 use Rattle.rina_dif.specs.Binding.{BindsAt, BindsTo, MayBind, noting}
 use Rattle.rina_dif.specs.Changing.{EndsFlow, MayHoldFar, changed_at, cep_here, without_flow_if}
-use Rattle.rina_dif.specs.Elsewhere.{home_of}
 use Rattle.rina_dif.specs.Freeing.{FreesHere}
 use Rattle.rina_dif.specs.Holding.{Holds}
 use Rattle.rina_dif.specs.Managing.{AreEnrolled, AreManagedBy, agents_of, states_of}

@@ -1,5 +1,5 @@
 -- The oldest SDU of a link is taken.
-use Rattle.std.proofs.Common.{◌≡◌, ◌∙◌, ℕ, ◌<◌, Bool, List, [], length, slice_get, option_map, Option, Some, None, Result, Ok, Err, refl, sym, ap, subst, false, true, inl, inr}
+use Rattle.std.proofs.Common.{◌≡◌, ◌∙◌, ℕ, ◌<◌, Bool, List, [], length, slice_get, option_map, Option, Some, None, Result, Ok, Err, refl, sym, ap, subst, false, inl, inr}
 use Rattle.std.specs.Prelude.{IsSome}
 use Rattle.std.proofs.lemmas.Option.{slice_get-map}
 use Rattle.rina_agent.specs.declared.state.AgentError.{AgentError}

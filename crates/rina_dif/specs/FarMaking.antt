@@ -1,5 +1,5 @@
 -- How a member of a DIF that is asked for a flow decides, and how it makes the far end.
-use Rattle.std.specs.Prelude.{◌≡◌, ℕ, ◌+◌, ◌*◌, ◌^◌, ◌⊎◌, Bool, true, false, not, nat_le, if◌then◌else◌, ◌<◌, ◌≤◌, List, [], ◌∷◌, ◌++◌, length, slice_get, Option, Some, None, option_and_then, unwrap_or, Result, Ok, Err}
+use Rattle.std.specs.Prelude.{◌≡◌, ℕ, ◌+◌, ◌*◌, ◌^◌, ◌⊎◌, Bool, true, false, nat_le, if◌then◌else◌, ◌<◌, ◌≤◌, List, [], ◌∷◌, ◌++◌, length, slice_get, Option, Some, None, option_and_then, unwrap_or, Result, Ok, Err}
 use Rattle.rina_access.specs.Access.{decided}
 use Rattle.rina_access.specs.declared.rules.Act.TheVariants.{Allocate}
 use Rattle.rina_access.specs.declared.rules.Decision.{Decision}
@@ -8,7 +8,6 @@ use Rattle.rina_alloc.specs.declared.answer.FlowAnswer.TheVariants as answers
 use Rattle.rina_alloc.specs.declared.event.AskDo.{AskDo}
 use Rattle.rina_alloc.specs.declared.event.AskDo.TheVariants as does
 use Rattle.rina_alloc.specs.declared.message.FlowAsk.{FlowAsk}
-use Rattle.rina_alloc.specs.declared.message.FlowMessage.{FlowMessage}
 use Rattle.rina_alloc.specs.declared.message.FlowWord.TheVariants as words
 use Rattle.rina_alloc.specs.Machines.{answer_of}
 use Rattle.rina_alloc.specs.Words.{answer_at}
@@ -25,7 +24,7 @@ use Rattle.rina_ids.specs.Ids.{free_id}
 use Rattle.rina_ids.specs.Members.{CepIds, DrawsAt, with_drawn}
 use Rattle.rina_iface.specs.declared.ends.End.{End}
 use Rattle.rina_iface.specs.declared.state.Role.TheVariants.{Asker, Far}
-use Rattle.rina_iface.specs.Journal.{At, HasPartner}
+use Rattle.rina_iface.specs.Journal.{At}
 use Rattle.rina_iface.specs.Seen.{Seen, is_registered}
 use Rattle.rina_law.specs.Direction.{Direction}
 use Rattle.rina_member.specs.declared.management.Management.{Management}

@@ -1,5 +1,5 @@
 -- What an ask and a claim of an application do to the facilities of all ranks.
-use Rattle.std.proofs.Common.{◌≡◌, ◌≢◌, ◌∙◌, ◌+◌, ℕ, Bool, true, false, List, [], ◌∷◌, ◌++◌, append-nil, slice_set, Option, Some, None, option_map, Result, Ok, Err, refl, sym, ap, subst, inl, inr, ◌⊎◌}
+use Rattle.std.proofs.Common.{◌≡◌, ◌≢◌, ◌∙◌, ℕ, Bool, true, false, List, [], ◌∷◌, ◌++◌, append-nil, slice_set, Option, Some, None, option_map, Result, Ok, Err, refl, sym, ap, subst, inl, inr, ◌⊎◌}
 use Rattle.std.specs.Prelude.{◌||◌}
 use Rattle.std.proofs.lemmas.Option.{none-some, same_Some}
 use Rattle.rina_base.specs.declared.number.FlowName.{FlowName}

@@ -9,7 +9,7 @@ use Rattle.rina_data.proofs.Finding.{there}
 use Rattle.rina_tower.specs.Bystanders.{is_ipc}
 use Rattle.rina_notes.specs.declared.label.Label.{Label}
 use Rattle.rina_laws.proofs.LabelEnds.{Holds, Waits, one_place}
-use Rattle.rina_laws.proofs.LabelMoves.{FacMoves, Fits, IsOn, MovesIn}
+use Rattle.rina_laws.proofs.LabelMoves.{Fits, IsOn, MovesIn}
 use Rattle.rina_laws.proofs.LabelRanks.{AllPorts, AtAll, Shown, both_from, both_on}
 
 -- an end stands at a place of a facility of a rank

@@ -1,5 +1,5 @@
 -- The calls of applications leave a tower that stands; of these only the freeing of a flow writes PDUs off, and with cause.
-use Rattle.std.proofs.Common.{◌≡◌, ℕ, true, false, List, Option, Some, None, IsSome, Result, refl, sym, ap, subst, inl, inr}
+use Rattle.std.proofs.Common.{◌≡◌, ℕ, true, false, List, Option, None, IsSome, Result, refl, sym, ap, subst, inl, inr}
 use Rattle.std.specs.Prelude.{◌||◌}
 use Rattle.rina_account.specs.declared.ledger.Off.{Off}
 use Rattle.rina_base.specs.declared.cause.Cause.{Cause}

@@ -1,4 +1,4 @@
-use Rattle.std.proofs.Common.{◌≡◌, ◌<◌, arith, ap, length, subst, sym, Some}
+use Rattle.std.proofs.Common.{◌<◌, ap, length, subst, sym, Some}
 use Rattle.std.proofs.lemmas.Option.{slice_get_within}
 use Rattle.std.proofs.lemmas.Result.{err_from_is_err_and}
 use Rattle.rina_alloc.specs.declared.answer.FlowAnswer.TheVariants.{NotHere}

@@ -1,9 +1,8 @@
-use Rattle.std.proofs.Common.{◌∙◌, ◌<◌, arith, refl, sym, inr, Ok, Some, ap}
+use Rattle.std.proofs.Common.{◌∙◌, refl, sym, inr, Ok, Some, ap}
 use Rattle.std.proofs.lemmas.Bool.{false≢true}
-use Rattle.std.proofs.lemmas.Result.{err_from_is_err_and}
 use Rattle.rina_alloc.specs.Machines.{asked_does}
 use Rattle.rina_data.proofs.Finding.{there}
-use Rattle.rina_dif.proofs.Accepting.{always_told, handle_err, handles_no, handles_yes, may_so, same_Ok, sent_whole, told_by, whole_same}
+use Rattle.rina_dif.proofs.Accepting.{always_told, handles_no, handles_yes, may_so, same_Ok, sent_whole, told_by, whole_same}
 use Rattle.rina_dif.specs.declared.dif.Dif.{Dif}
 use Rattle.rina_dif.proofs.FlowWalk.{leaves_none, leaves_same}
 use Rattle.rina_dif.proofs.dif.Dif.answer_ask.Goals as goal

@@ -1,4 +1,4 @@
-use Rattle.std.proofs.Common.{◌≡◌, ◌∙◌, ℕ, Some, Option, arith, ap, sym}
+use Rattle.std.proofs.Common.{◌≡◌, ◌∙◌, Some, arith, ap, sym}
 use Rattle.std.proofs.lemmas.Result.{err_from_is_err_and}
 use Rattle.rina_dif_law.specs.Dif.{fac_of}
 use Rattle.rina_dif_law.specs.Numbered.{asked_at}

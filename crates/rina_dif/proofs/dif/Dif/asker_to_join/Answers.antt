@@ -1,4 +1,4 @@
-use Rattle.std.proofs.Common.{◌≡◌, sym, subst}
+use Rattle.std.proofs.Common.{sym, subst}
 use Rattle.rina_dif.specs.FarMaking.{FindsJoinable}
 use Rattle.rina_dif.proofs.dif.Dif.asker_to_join.Goals as goal
 

@@ -1,4 +1,4 @@
-use Rattle.std.proofs.Common.{arith, subst, sym, Some, refl}
+use Rattle.std.proofs.Common.{arith, Some, refl}
 use Rattle.std.proofs.lemmas.Option.{slice_get_within}
 use Rattle.std.proofs.lemmas.Result.{err_from_is_err_and}
 use Rattle.rina_dif.proofs.Answering.{binds_end, binds_err, within_conns}

@@ -1,4 +1,3 @@
-use Rattle.rina_dif.proofs.Serving.{flows_end}
 use Rattle.rina_dif.proofs.dif.Dif.flows_end.Goals as goal
 
 pub returns-in-None : goal.returns-in-None

@@ -1,6 +1,6 @@
-use Rattle.std.proofs.Common.{◌≡◌, ◌∙◌, ap, subst, sym}
+use Rattle.std.proofs.Common.{◌≡◌, ◌∙◌, ap, sym}
 use Rattle.rina_dif.specs.declared.dif.Dif.{Dif}
-use Rattle.rina_dif.specs.Elsewhere.{ChangesOnly, WhenOk, home_of}
+use Rattle.rina_dif.specs.Elsewhere.{WhenOk}
 use Rattle.rina_dif.proofs.FlowEnds.{conns_within, freed_managed, freed_told, told_dif, told_ends, told_leaves, told_within}
 use Rattle.rina_dif.proofs.Freed.{never_homeless}
 use Rattle.rina_dif.proofs.dif.Dif.give_up_flow.Goals as goal

@@ -1,4 +1,4 @@
-use Rattle.std.proofs.Common.{◌≡◌, ◌∙◌, ◌-◌, ◌^◌, ◌<◌, arith, [], ◌∷◌, ◌++◌, Err, Ok, ap, refl, subst, sym, Some}
+use Rattle.std.proofs.Common.{◌∙◌, ◌-◌, ◌^◌, ◌<◌, arith, [], ◌∷◌, ◌++◌, Err, Ok, ap, refl, subst, sym, Some}
 use Rattle.std.proofs.lemmas.Option.{none-some, same_Some, slice_get_within}
 use Rattle.std.proofs.lemmas.Result.{err_from_is_err_and}
 use Rattle.rina_data.specs.declared.settings.Member.{Member}

@@ -1,5 +1,5 @@
 -- What waited is read, and what the piece brings.
-use Rattle.std.proofs.Common.{◌∙◌, List, ℕ, ap, drop, refl, subst, sym}
+use Rattle.std.proofs.Common.{◌∙◌, List, ℕ, ap, drop, subst, sym}
 use Rattle.std.proofs.lemmas.List.{take_rest}
 use Rattle.rina_base.specs.Pdus.{pdu_of}
 use Rattle.rina_law.specs.declared.entry.Entry.{Entry}

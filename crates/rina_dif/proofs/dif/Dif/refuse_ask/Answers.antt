@@ -1,4 +1,4 @@
-use Rattle.std.proofs.Common.{◌≡◌, ap, Some}
+use Rattle.std.proofs.Common.{ap, Some}
 use Rattle.std.proofs.lemmas.Option.{slice_get_within}
 use Rattle.rina_dif.specs.declared.dif.Dif.{Dif}
 use Rattle.rina_dif.proofs.AnswersIn.{refuse_whole, refuses_ask, waits_so}

@@ -1,4 +1,4 @@
-use Rattle.std.proofs.Common.{◌≡◌, Some, refl}
+use Rattle.std.proofs.Common.{Some, refl}
 use Rattle.rina_data.proofs.Finding.{there}
 use Rattle.rina_dif.proofs.Elsewhere.{withdrawn_at}
 use Rattle.rina_dif.proofs.TurnedDown.{asked_used, turns_down}

@@ -1,4 +1,3 @@
-use Rattle.std.proofs.Common.{◌≡◌}
 use Rattle.rina_dif.specs.declared.waiting_asks.WaitingAsk.{WaitingAsk}
 use Rattle.rina_dif.proofs.Requested.{has_requested, pushed_items}
 use Rattle.rina_dif.proofs.dif.Dif.request.Goals as goal

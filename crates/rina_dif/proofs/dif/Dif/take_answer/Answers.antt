@@ -1,4 +1,4 @@
-use Rattle.std.proofs.Common.{◌≡◌, ◌∙◌, arith, ap, sym, Some}
+use Rattle.std.proofs.Common.{◌∙◌, arith, ap, sym, Some}
 use Rattle.std.proofs.lemmas.Option.{slice_get_within}
 use Rattle.rina_dif.proofs.AnswersIn.{place_waits, takes_refusal, takes_yes, turned_away, whole_away, whole_refused}
 use Rattle.rina_dif.specs.declared.dif.Dif.{Dif}

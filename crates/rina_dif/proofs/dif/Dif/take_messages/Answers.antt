@@ -1,13 +1,11 @@
 -- One message more is handled.
-use Rattle.std.proofs.Common.{rules, ◌≡◌, ◌∙◌, ◌<◌, [], ◌∷◌, ◌++◌, List, append-nil, Err, Ok, Result, Some, ap, length, refl, subst, sym}
+use Rattle.std.proofs.Common.{rules, ◌≡◌, ◌∙◌, ◌<◌, [], ◌∷◌, ◌++◌, List, append-nil, Err, Ok, Result, Some, ap, length, subst, sym}
 use Rattle.std.proofs.lemmas.Result.{err_from_is_err_and}
 use Rattle.rina_alloc.specs.declared.message.FlowMessage.{FlowMessage}
 use Rattle.rina_base.specs.declared.memory.Memory.{Memory}
 use Rattle.rina_data.specs.declared.settings.Settings.{Settings}
 use Rattle.rina_dif.specs.declared.dif.Dif.{Dif}
 use Rattle.rina_dif.specs.FlowMessages.{TakesFlows}
-use Rattle.rina_dif.specs.Shown.{seen_of}
-use Rattle.rina_dif.proofs.Elsewhere.{none_changed}
 use Rattle.rina_dif.proofs.FlowWalk.{flows_silent, leaves_none, leaves_on, next_taken, none_left, none_taken, parts_on, parts_same, rest_after, still_dif, taken_early}
 use Rattle.rina_dif.proofs.dif.Dif.take_messages.Goals as goal
 

@@ -1,4 +1,4 @@
-use Rattle.std.proofs.Common.{◌≡◌, Ok, ap, Some, refl}
+use Rattle.std.proofs.Common.{Ok, ap, Some, refl}
 use Rattle.std.proofs.lemmas.Result.{err_from_is_err_and}
 use Rattle.rina_dif.specs.declared.dif.Dif.{Dif}
 use Rattle.rina_dif.proofs.AnswersIn.{bind_whole, kept_whole, stands_far, takes_bound, takes_err, takes_none}

@@ -1,7 +1,7 @@
 use Rattle.std.proofs.Common.{ap}
 use Rattle.rina_dif.specs.declared.dif.Dif.{Dif}
-use Rattle.rina_dif.proofs.LateAsks.{late_there, times_out, times_out_leaves}
-use Rattle.rina_dif.proofs.TurnedDown.{other_asks, other_asks_dif}
+use Rattle.rina_dif.proofs.LateAsks.{times_out, times_out_leaves}
+use Rattle.rina_dif.proofs.TurnedDown.{other_asks}
 use Rattle.rina_dif.proofs.dif.Dif.time_out.Goals as goal
 
 pub returns-clause-does : goal.returns-clause-does

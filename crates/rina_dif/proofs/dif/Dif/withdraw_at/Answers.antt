@@ -1,6 +1,5 @@
-use Rattle.std.proofs.Common.{◌≡◌, ◌∙◌, ℕ, Some, ap, subst, sym}
-use Rattle.rina_dif.specs.declared.dif.Dif.{Dif}
-use Rattle.rina_dif.specs.Elsewhere.{ChangesOnly, home_of}
+use Rattle.std.proofs.Common.{◌∙◌, ap, sym}
+use Rattle.rina_dif.specs.Elsewhere.{home_of}
 use Rattle.rina_dif.proofs.Freed.{never_homeless_end}
 use Rattle.rina_dif.proofs.TurnedDown.{withdrawn_leaves, withdrawn_with}
 use Rattle.rina_dif.proofs.dif.Dif.withdraw_at.Goals as goal
