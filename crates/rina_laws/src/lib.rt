@@ -89,8 +89,8 @@ pub fn each_line_has_its_cause()
 
 /// After any run from its opening each name that stands registered at a node of a DIF of any rank was registered by a line
 /// `register` of the schedule, for that application at that node of that DIF, whose `ok` stands among the notes of the run with
-/// a tick that has come; or it is there since the opening, or is an IPC process's, which a line `publish` registers. So no
-/// application is known in a DIF but by its own leave.
+/// a tick that has come; or it is there since the opening, or is an IPC process's, of which nothing is said. So no application
+/// is registered in a DIF but by a line that says so.
 pub fn each_name_was_registered()
     ensures { NamesAreRegistered }
 {}
@@ -101,7 +101,7 @@ pub fn each_name_was_registered()
 /// asker's. That application was registered at the node of the far end before the step. As the message was handled, behind
 /// those that came with it, an enrolled member stood on that node, whose rules allow the asker's application; the ask was younger
 /// than the CEP-ids of its cube rest; and the asker's end stood in the DIF, with each other's application as peer, and without a far
-/// end. So nobody has a flow to an application that is not registered there, or to which the rules deny it.
+/// end. So no far end was made of an application that was not registered there, or to which the rules then denied the asker.
 pub fn each_far_end_was_asked_for()
     ensures { FarEndsAreAskedFor }
 {}
