@@ -36,6 +36,7 @@ pub mod LabelStart
 pub mod LabelTells
 pub mod LabelTicks
 pub mod LabelWords
+pub mod Leading
 pub mod WiresAsked
 pub mod WiresAt
 pub mod WiresOf

@@ -1,16 +1,13 @@
 -- Each far end that was not there at the opening was made in a step of the run, in which it was asked for.
-use Rattle.std.proofs.Common.{◌≡◌, ◌≢◌, ◌∙◌, ◌⊎◌, ℕ, ◌+◌, zero, suc, nat_lt, Bool, true, false, List, [], ◌∷◌, ◌++◌, map, slice_get, Option, Some, None, option_and_then, Result, Ok, Err, refl, sym, ap, subst, inl, inr}
+use Rattle.std.proofs.Common.{◌≡◌, ◌≢◌, ◌∙◌, ℕ, ◌+◌, suc, nat_lt, true, false, List, [], ◌∷◌, ◌++◌, map, slice_get, Option, Some, None, option_and_then, Result, Ok, Err, refl, sym, ap, subst, inl, inr}
 use Rattle.rina_iface.specs.declared.ends.End.{End}
 use Rattle.rina_iface.specs.declared.state.Role.TheVariants.{Far}
 use Rattle.rina_policy.specs.Slots.{Slot}
 use Rattle.rina_report.specs.declared.answer.Answer.{Answer}
 use Rattle.rina_report.specs.declared.note.Note.{Note}
-use Rattle.rina_schedule.specs.declared.error.LineError.{LineError}
 use Rattle.rina_schedule.specs.declared.event.Event.{Event}
 use Rattle.rina_schedule.specs.declared.event.Event.TheVariants as events
 use Rattle.rina_stack.specs.declared.plan.Plan.{Plan}
-use Rattle.rina_table.specs.declared.sketch.Rounds.{Rounds}
-use Rattle.rina_table.specs.declared.sketch.Rounds.TheVariants.{Auto, Manual}
 use Rattle.rina_data.specs.declared.step.ClockStep.{ClockStep}
 use Rattle.rina_data.specs.declared.step.InStep.{InStep}
 use Rattle.rina_data.specs.declared.step.OutStep.{OutStep}
@@ -29,12 +26,11 @@ use Rattle.rina_tower.specs.Stands.{IsTower}
 use Rattle.rina_tower.specs.Steps.{ClocksAtTop, InStepsAtTop, OutStepsAtTop}
 use Rattle.rina_notes.specs.declared.site.Site.{Site}
 use Rattle.rina_notes.specs.Sites.{dif_site_at, site_at}
-use Rattle.rina_schedule.specs.Line.{line_at as event_at}
 use Rattle.rina_words.specs.declared.run.Run.{Run}
-use Rattle.rina_words.specs.Step.{Acts, AtSite, CallsIn, CallsRegister, RoundsBy, Stage, Ticking, Ticks, link_of, rounds_after}
-use Rattle.rina_run.specs.Run.{LineDoes, Runs}
+use Rattle.rina_words.specs.Step.{Acts, AtSite, CallsIn, CallsRegister, Stage, link_of}
 use Rattle.rina_laws.specs.Named.{MakesFarEnd, end_at}
-use Rattle.rina_laws.specs.SomeStep.{FarEndsAreAskedFor, SomeAfter, SomeMove, SomeOfLine, SomeOfRound, SomeOfTicking, SomeOfTicks, SomeOfWord, SomeStep}
+use Rattle.rina_laws.specs.SomeStep.{FarEndsAreAskedFor, SomeMove, SomeOfRound, SomeOfWord}
+use Rattle.rina_laws.proofs.Leading.{Leads, TicksLead, leads_on, leads_same, runs, ticking}
 use Rattle.rina_laws.proofs.NamedAsks.{ByAsk, takes_ends}
 use Rattle.rina_laws.proofs.NamedComes.{CameAt, Comes, HoldsAt, Never, at_rank, came_at, never_at}
 use Rattle.rina_laws.proofs.NamedEnds.{HasEnd, ends_stay, ipcs_make_none, one_refl, registers_ends}
@@ -113,34 +109,7 @@ At x t = HoldsAt (HasEnd x.end x.place) x.rank x.dif t
 abbrev Is : Spot → Tower → Tower → Type 0
 Is x t t' = MakesFarEnd x.rank x.dif x.place x.end t t'
 
--- the tower stands afterwards, and where the far end is there it was so before, or this holds
-record Leads (x : Spot) (S : Type 0) (t t' : Tower) : Type 0 where
-  valid : IsTower t'
-  back : At x t' → At x t ⊎ S
-
-leads_same : (x : Spot) (S : Type 0) (t t' : Tower) → IsTower t → t' ≡ t → Leads x S t t'
-leads_same x S t t' v is = subst (Leads x S t) (sym is) (record { valid = v; back = λ h. inl h })
-
-leads_on : (x : Spot) (S S' : Type 0) (t u v : Tower) → Leads x S t u → Leads x S' u v → Leads x (S ⊎ S') t v
-leads_on x S S' t u v f g = record {
-  valid = g.valid;
-  back = λ h. elim (g.back h) [
-    | inl o ↦ elim (f.back o) [ inl z ↦ inl z | inr s ↦ inr (inl s) ]
-    | inr s ↦ inr (inr s)
-  ];
-}
-
--- after a quiet part
-after_quiet : (x : Spot) (S : Type 0) (t u v : Tower) → Leads x ⊥ t u → Leads x S u v → Leads x S t v
-after_quiet x S t u v f g = record {
-  valid = g.valid;
-  back = λ h. elim (g.back h) [
-    | inl o ↦ elim (f.back o) [ inl z ↦ inl z | inr none ↦ absurd none ]
-    | inr s ↦ inr s
-  ];
-}
-
-quiet : (x : Spot) (S : Type 0) (t t' : Tower) → IsTower t' → Comes (HasEnd x.end x.place) Never t t' → Leads x S t t'
+quiet : (x : Spot) (S : Type 0) (t t' : Tower) → IsTower t' → Comes (HasEnd x.end x.place) Never t t' → Leads (At x) S t t'
 quiet x S t t' v c = record { valid = v; back = λ h. inl (never_at (HasEnd x.end x.place) t t' x.rank x.dif c h) }
 
 -- no end stands at a place of a DIF of which none is
@@ -151,7 +120,7 @@ none_by t r n i d is = ap (option_and_then (λ (z : Dif). slice_get z.flows.jour
 came_dif : (t : Tower) (r n : ℕ) (e : End) (i : ℕ) (c : CameAt (ByAsk e i) r n t) → dif_at t r n ≡ Some c.dif
 came_dif t r n e i c = ap (λ (o : Option Tower). option_and_then (λ (u : Tower). dif_of u n) o) c.is_rank ∙ c.is_dif
 
-makes : (x : Spot) (t t' : Tower) → IsTower t' → Comes (HasEnd x.end x.place) (ByAsk x.end x.place) t t' → Leads x (Is x t t') t t'
+makes : (x : Spot) (t t' : Tower) → IsTower t' → Comes (HasEnd x.end x.place) (ByAsk x.end x.place) t t' → Leads (At x) (Is x t t') t t'
 makes x t t' v comes = record {
   valid = v;
   back = λ h. elim (came_at (HasEnd x.end x.place) (ByAsk x.end x.place) t t' x.rank x.dif comes h) [
@@ -175,7 +144,7 @@ makes x t t' v comes = record {
 
 -- ---- rounds
 
-one_move : (x : Spot) (m : Move) (slots slots' : List Slot) (t t' : Tower) → FoundMemory m → IsTower t → Moves m slots t slots' t' → Leads x (Is x t t') t t'
+one_move : (x : Spot) (m : Move) (slots slots' : List Slot) (t t' : Tower) → FoundMemory m → IsTower t → Moves m slots t slots' t' → Leads (At x) (Is x t t') t t'
 one_move x (InMove p result) slots slots' t t' found v d =
     let F = HasEnd x.end x.place in
     makes x t t' (move_goes (InMove p result) slots slots' t t' v d).valid
@@ -189,41 +158,28 @@ one_move x (OutMove p result) slots slots' t t' found v d =
     quiet x _ t t' (move_goes (OutMove p result) slots slots' t t' v d).valid
     (at_rank F Never p.rank (OutStepsAtTop Anything slots slots' p.dif p.node p.link result) _ t t' v (λ u u' h w c. steps.lets_out F (ends_stay x.end x.place x.far) slots slots' p.dif p.node p.link result u u' c) d)
 
-all_move : (x : Spot) (ms : List Move) (slots : List Slot) (t : Tower) (slots' : List Slot) (t' : Tower) → AllFound ms → IsTower t → (d : AllMove ms slots t slots' t') → Leads x (SomeMove (Is x) ms slots t slots' t' d) t t'
-all_move x [] slots t slots' t' found v d = leads_same x ⊥ t t' v d.1
+all_move : (x : Spot) (ms : List Move) (slots : List Slot) (t : Tower) (slots' : List Slot) (t' : Tower) → AllFound ms → IsTower t → (d : AllMove ms slots t slots' t') → Leads (At x) (SomeMove (Is x) ms slots t slots' t' d) t t'
+all_move x [] slots t slots' t' found v d = leads_same (At x) ⊥ t t' v d.1
 all_move x (m ∷ ms) slots t slots' t' found v (mid, between, one, others) =
     let first = one_move x m slots mid t between found.0 v one in
-    leads_on x (Is x t between) (SomeMove (Is x) ms mid between slots' t' others) t between t' first (all_move x ms mid between slots' t' found.1 first.valid others)
+    leads_on (At x) (Is x t between) (SomeMove (Is x) ms mid between slots' t' others) t between t' first (all_move x ms mid between slots' t' found.1 first.valid others)
 
-round : (x : Spot) (slots slots' : List Slot) (t t' : Tower) → IsTower t → (d : IsRound slots slots' t t') → Leads x (SomeOfRound (Is x) slots slots' t t' d) t t'
+round : (x : Spot) (slots slots' : List Slot) (t t' : Tower) → IsTower t → (d : IsRound slots slots' t t') → Leads (At x) (SomeOfRound (Is x) slots slots' t t' d) t t'
 round x slots slots' t t' v d =
     let taken = all_move x d.takes slots t slots d.taken (found_in_turn AllInSteps in_found (links_upward t) d.takes d.takes_are) v d.do_take in
     let clocked = all_move x d.dues slots d.taken slots d.clocked (found_in_turn AllClockSteps clock_found (members_upward d.taken) d.dues d.dues_are) taken.valid d.do_dues in
     let left = all_move x d.leaves slots d.clocked slots' t' (found_in_turn AllOutSteps out_found (links_downward d.clocked) d.leaves d.leaves_are) clocked.valid d.do_leave in
-    leads_on x _ _ t d.taken t' taken (leads_on x _ _ d.taken d.clocked t' clocked left)
-
-rounds_by : (x : Spot) (rounds : Rounds) (slots : List Slot) (t : Tower) (slots' : List Slot) (t' : Tower) → IsTower t → (d : RoundsBy rounds slots t slots' t') → Leads x (SomeAfter (Is x) rounds slots t slots' t' d) t t'
-rounds_by x Auto slots t slots' t' v d = round x slots slots' t t' v d
-rounds_by x Manual slots t slots' t' v d = leads_same x ⊥ t t' v d.1
+    leads_on (At x) _ _ t d.taken t' taken (leads_on (At x) _ _ d.taken d.clocked t' clocked left)
 
 -- ---- ticks
 
-all_ticks : (x : Spot) (plan : Plan) (line count : ℕ) (s : Stage) (ns : List Note) (s' : Stage) → IsTower s.run.tower → (d : Ticks plan line count s ns s') → Leads x (SomeOfTicks (Is x) plan line count s ns s' d) s.run.tower s'.run.tower
-all_ticks x plan line zero s ns s' v d = leads_same x ⊥ s.run.tower s'.run.tower v (ap (λ (z : Stage). z.run.tower) d.1)
-all_ticks x plan line (suc count) s ns s' v (mid, first, rest, once, others, told) =
-    let t = s.run.tower in
-    let ticked : Leads x ⊥ t once.ticked = quiet x ⊥ t once.ticked (tick_goes NoneWritten (Ok tt) t once.ticked v once.ticks).valid (steps.ticks (HasEnd x.end x.place) (ends_stay x.end x.place x.far) (Ok tt) t once.ticked once.ticks) in
-    let rounded = rounds_by x plan.rounds s.shelf once.ticked mid.shelf mid.run.tower ticked.valid once.rounds in
-    leads_on x _ _ t mid.run.tower s'.run.tower (after_quiet x _ t once.ticked mid.run.tower ticked rounded) (all_ticks x plan line count mid rest s' rounded.valid others)
-
-ticking : (x : Spot) (over : Bool) (plan : Plan) (line count : ℕ) (s : Stage) (ns : List Note) (s' : Stage) → IsTower s.run.tower → (d : Ticking over plan line count s ns s') → Leads x (SomeOfTicking (Is x) over plan line count s ns s' d) s.run.tower s'.run.tower
-ticking x true plan line count s ns s' v d = leads_same x ⊥ s.run.tower s'.run.tower v (ap (λ (z : Stage). z.run.tower) d.1)
-ticking x false plan line count s ns s' v d = all_ticks x plan line count s d.told s' v d.ticks
+tick : (x : Spot) → TicksLead (At x)
+tick x t t' v d = quiet x ⊥ t t' (tick_goes NoneWritten (Ok tt) t t' v d).valid (steps.ticks (HasEnd x.end x.place) (ends_stay x.end x.place x.far) (Ok tt) t t' d)
 
 -- ---- words and lines
 
-taking : (x : Spot) (plan : Plan) (link : ℕ) (found : Result Site ℕ) (w : Run) (says : Option Answer) (w' : Run) → IsTower w.tower → IsTower w'.tower → AtSite found (CallsIn plan link w) w says w' → Leads x (Is x w.tower w'.tower) w.tower w'.tower
-taking x plan link (Err field) w says w' v v' d = leads_same x _ w.tower w'.tower v (ap (λ (z : Run). z.tower) d.run)
+taking : (x : Spot) (plan : Plan) (link : ℕ) (found : Result Site ℕ) (w : Run) (says : Option Answer) (w' : Run) → IsTower w.tower → IsTower w'.tower → AtSite found (CallsIn plan link w) w says w' → Leads (At x) (Is x w.tower w'.tower) w.tower w'.tower
+taking x plan link (Err field) w says w' v v' d = leads_same (At x) _ w.tower w'.tower v (ap (λ (z : Run). z.tower) d.run)
 taking x plan link (Ok site) w says w' v v' d =
     let F = HasEnd x.end x.place in
     makes x w.tower w'.tower v'
@@ -235,32 +191,19 @@ registering x name found w says w' v d =
     named.at_site F found (CallsRegister name w) w says w' (λ site c.
     named.at_app F site.rank (λ u. is_ipc name) (RegistersAtTop site.fac site.node name) c.result w.tower w'.tower v (λ y u u' z e. registers_ends x.end x.place x.far site.fac site.node name y u u' e) c.does) d
 
-word : (x : Spot) (plan : Plan) (line : ℕ) (event : Event) (s : Stage) (ns : List Note) (s' : Stage) → IsTower s.run.tower → (d : Acts plan line event s ns s') → Leads x (SomeOfWord (Is x) plan line event s ns s' d) s.run.tower s'.run.tower
-word x plan line (events.Tick count) s ns s' v d = ticking x (nat_lt 10000000 (now_of s.run.tower + count)) plan line count s ns s' v d
+word : (x : Spot) (plan : Plan) (line : ℕ) (event : Event) (s : Stage) (ns : List Note) (s' : Stage) → IsTower s.run.tower → (d : Acts plan line event s ns s') → Leads (At x) (SomeOfWord (Is x) plan line event s ns s' d) s.run.tower s'.run.tower
+word x plan line (events.Tick count) s ns s' v d = ticking (At x) (Is x) (round x) (tick x) (nat_lt 10000000 (now_of s.run.tower + count)) plan line count s ns s' v d
 word x plan line events.Round s ns s' v d = round x s.shelf s'.shelf s.run.tower s'.run.tower v d.does
 word x plan line (events.In dif node link) s ns s' v d = taking x plan link (dif_site_at plan dif node) s.run d.0.says s'.run v (words plan line (events.In dif node link) s.run ns s'.run v d.0).valid d.0.does
 word x plan line (events.Out dif node link) s ns s' v d =
     quiet x _ s.run.tower s'.run.tower (lets plan line dif node link s ns s' v d).valid (named.letting (HasEnd x.end x.place) (ends_stay x.end x.place x.far) plan (dif_site_at plan dif node) link s d.says s' v d.does)
-word x plan line (events.Retire policy) s ns s' v d = leads_same x ⊥ s.run.tower s'.run.tower v (ap (λ (w : Run). w.tower) d.run)
+word x plan line (events.Retire policy) s ns s' v d = leads_same (At x) ⊥ s.run.tower s'.run.tower v (ap (λ (w : Run). w.tower) d.run)
 word x plan line (events.Register name node app) s ns s' v d =
     quiet x _ s.run.tower s'.run.tower (words plan line (events.Register name node app) s.run ns s'.run v d.0).valid (registering x app (site_at plan 1 name node) s.run d.0.says s'.run v d.0.does)
 word x plan line (events.Publish dif node fac) s ns s' v d =
     quiet x _ s.run.tower s'.run.tower (words plan line (events.Publish dif node fac) s.run ns s'.run v d.0).valid (named.publishing (HasEnd x.end x.place) plan dif node fac s.run d.0.says s'.run (ipcs_make_none x.end x.place x.far) v d.0.does)
 word x plan line event s ns s' v d =
     quiet x _ s.run.tower s'.run.tower (words plan line event s.run ns s'.run v d.0).valid (named.words (HasEnd x.end x.place) (ends_stay x.end x.place x.far) plan line event s.run ns s'.run v tt d.0)
-
-line_does : (x : Spot) (plan : Plan) (number : ℕ) (asks : Result (Option Event) LineError) (s : Stage) (ns : List Note) (s' : Stage) → IsTower s.run.tower → (d : LineDoes plan number asks s ns s') → Leads x (SomeOfLine (Is x) plan number asks s ns s' d) s.run.tower s'.run.tower
-line_does x plan number (Ok None) s ns s' v d = leads_same x ⊥ s.run.tower s'.run.tower v (ap (λ (z : Stage). z.run.tower) d.1)
-line_does x plan number (Ok (Some event)) s ns s' v d =
-    let first = word x plan number event s d.answer d.mid v d.acts in
-    leads_on x _ _ s.run.tower d.mid.run.tower s'.run.tower first (rounds_by x (rounds_after plan.rounds event) d.mid.shelf d.mid.run.tower s'.shelf s'.run.tower first.valid d.rounds)
-line_does x plan number (Err e) s ns s' v d = absurd d
-
-runs : (x : Spot) (plan : Plan) (number : ℕ) (s : Stage) (lines : List (List ℕ)) (ns : List Note) (s' : Stage) → IsTower s.run.tower → (d : Runs plan number s lines ns s') → Leads x (SomeStep (Is x) plan number s lines ns s' d) s.run.tower s'.run.tower
-runs x plan number s [] ns s' v d = leads_same x ⊥ s.run.tower s'.run.tower v (ap (λ (z : Stage). z.run.tower) d.1)
-runs x plan number s (l ∷ ls) ns s' v (mid, first, rest, does, others, told) =
-    let one = line_does x plan number (event_at l) s first mid v does in
-    leads_on x _ _ s.run.tower mid.run.tower s'.run.tower one (runs x plan (number + 1) mid ls rest s' one.valid others)
 
 -- ---- the law
 
@@ -277,7 +220,7 @@ none_stood t r n i e none h = (let no : None ≡ Some h.holds.end = sym none ∙
 pub far_ends_are_asked_for : FarEndsAreAskedFor
 far_ends_are_asked_for plan shelf start lines ns s o d r n i e h far none =
     let x : Spot = record { rank = r; dif = n; place = i; end = e; far = far } in
-    elim ((runs x plan 1 start lines ns s o.stands d).back (stands_there s.run.tower r n i e h)) [
+    elim ((runs (At x) (Is x) (round x) (word x) plan 1 start lines ns s o.stands d).back (stands_there s.run.tower r n i e h)) [
       | inl old ↦ absurd (none_stood start.run.tower r n i e none old)
       | inr step ↦ step
     ]

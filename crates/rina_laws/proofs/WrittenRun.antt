@@ -1,17 +1,14 @@
 -- Each line of each ledger was written in a step of the run, before which its cause held.
-use Rattle.std.proofs.Common.{◌≡◌, ◌∙◌, ℕ, ◌+◌, zero, suc, nat_lt, Bool, true, false, List, [], ◌∷◌, length, slice_get, Option, Some, None, Result, Ok, Err, sym, ap, subst, arith, inl, inr, ◌⊎◌}
+use Rattle.std.proofs.Common.{◌≡◌, ◌∙◌, ℕ, ◌+◌, nat_lt, List, [], ◌∷◌, length, slice_get, Some, None, Ok, sym, ap, subst, arith, inl, inr, ◌⊎◌}
 use Rattle.std.proofs.lemmas.Bool.Decides.{eqb_tells}
 use Rattle.std.proofs.lemmas.List.{length-map}
 use Rattle.std.proofs.lemmas.Option.{slice_get_within}
 use Rattle.rina_account.specs.declared.ledger.Off.{Off}
 use Rattle.rina_policy.specs.Slots.{Slot}
 use Rattle.rina_report.specs.declared.note.Note.{Note}
-use Rattle.rina_schedule.specs.declared.error.LineError.{LineError}
 use Rattle.rina_schedule.specs.declared.event.Event.{Event}
 use Rattle.rina_schedule.specs.declared.event.Event.TheVariants as events
 use Rattle.rina_stack.specs.declared.plan.Plan.{Plan}
-use Rattle.rina_table.specs.declared.sketch.Rounds.{Rounds}
-use Rattle.rina_table.specs.declared.sketch.Rounds.TheVariants.{Auto, Manual}
 use Rattle.rina_data.proofs.Finding.{there}
 use Rattle.rina_data.specs.Configs.{member_of}
 use Rattle.rina_data.specs.Deciding.{process_of}
@@ -22,16 +19,15 @@ use Rattle.rina_tower.specs.Ranks.{height_of, now_of, seen_of}
 use Rattle.rina_tower.specs.Rounds.{AllMove, IsRound, Move}
 use Rattle.rina_tower.specs.Stands.{IsTower}
 use Rattle.rina_words.specs.declared.run.Run.{Run}
-use Rattle.rina_schedule.specs.Line.{line_at as event_at}
-use Rattle.rina_words.specs.Step.{Acts, RoundsBy, Stage, Ticking, Ticks, rounds_after}
-use Rattle.rina_run.specs.Run.{LineDoes, Runs}
-use Rattle.rina_laws.specs.SomeStep.{LinesHaveCauses, SomeAfter, SomeMove, SomeOfLine, SomeOfRound, SomeOfTicking, SomeOfTicks, SomeOfWord, SomeStep}
+use Rattle.rina_words.specs.Step.{Acts, Stage}
+use Rattle.rina_laws.specs.SomeStep.{LinesHaveCauses, SomeMove, SomeOfRound, SomeOfWord}
 use Rattle.rina_laws.specs.Starts.{AreUntouched, IsUntouched}
 use Rattle.rina_laws.specs.Written.{IsWritten, MayWrite, line_at, line_of}
+use Rattle.rina_laws.proofs.Leading.{Leads, TicksLead, leads_on, leads_same, runs, ticking}
 use Rattle.rina_laws.proofs.StartsAt.{difs_start}
 use Rattle.rina_laws.proofs.WrittenGoes.{Goes}
 use Rattle.rina_laws.proofs.WrittenGrows.{Grows, Never, dif_in, grown_at, line_in, low_line, no_line, own_line}
-use Rattle.rina_laws.proofs.WrittenSteps.{Ticked, moves, ticks}
+use Rattle.rina_laws.proofs.WrittenSteps.{moves, ticks}
 use Rattle.rina_laws.proofs.WrittenWords.{lets, words}
 
 -- a line of a ledger, by its places
@@ -50,23 +46,6 @@ At s t = line_at t s.rank s.dif s.process s.place ≡ Some s.off
 abbrev Is : Spot → Tower → Tower → Type 0
 Is s t t' = IsWritten s.rank s.dif s.process s.place s.off t t'
 
--- the tower stands afterwards, and where the line is there it was so before, or this holds
-record Leads (x : Spot) (S : Type 0) (t t' : Tower) : Type 0 where
-  valid : IsTower t'
-  back : At x t' → At x t ⊎ S
-
-leads_same : (x : Spot) (S : Type 0) (t t' : Tower) → IsTower t → t' ≡ t → Leads x S t t'
-leads_same x S t t' v is = subst (Leads x S t) (sym is) (record { valid = v; back = λ h. inl h })
-
-leads_on : (x : Spot) (S S' : Type 0) (t u v : Tower) → Leads x S t u → Leads x S' u v → Leads x (S ⊎ S') t v
-leads_on x S S' t u v f g = record {
-  valid = g.valid;
-  back = λ h. elim (g.back h) [
-    | inl o ↦ elim (f.back o) [ inl z ↦ inl z | inr s ↦ inr (inl s) ]
-    | inr s ↦ inr (inr s)
-  ];
-}
-
 -- after a step that writes nothing, or with cause
 
 quiet_back : (x : Spot) (t t' : Tower) → height_of t' ≡ height_of t → Grows Never t t' → At x t' → At x t ⊎ ⊥
@@ -78,81 +57,43 @@ writes_back x t t' height g h = elim (grown_at MayWrite t t' x.rank x.dif x.proc
   | inr w ↦ inr (record { none = w.none; written = w.written; rank = w.rank; is_rank = w.is_rank; below = w.below; is_below = w.is_below; dif = w.dif; is_dif = w.is_dif; may = w.may })
 ]
 
-quiet : (x : Spot) (t t' : Tower) → Goes Never t t' → Leads x ⊥ t t'
+quiet : (x : Spot) (t t' : Tower) → Goes Never t t' → Leads (At x) ⊥ t t'
 quiet x t t' g = record { valid = g.valid; back = quiet_back x t t' g.height g.grows }
 
-writes : (x : Spot) (t t' : Tower) → Goes MayWrite t t' → Leads x (Is x t t') t t'
+writes : (x : Spot) (t t' : Tower) → Goes MayWrite t t' → Leads (At x) (Is x t t') t t'
 writes x t t' g = record { valid = g.valid; back = writes_back x t t' g.height g.grows }
 
 -- ---- rounds
 
-all_move : (x : Spot) (ms : List Move) (slots : List Slot) (t : Tower) (slots' : List Slot) (t' : Tower) → IsTower t → (d : AllMove ms slots t slots' t') → Leads x (SomeMove (Is x) ms slots t slots' t' d) t t'
-all_move x [] slots t slots' t' v d = leads_same x ⊥ t t' v d.1
+all_move : (x : Spot) (ms : List Move) (slots : List Slot) (t : Tower) (slots' : List Slot) (t' : Tower) → IsTower t → (d : AllMove ms slots t slots' t') → Leads (At x) (SomeMove (Is x) ms slots t slots' t' d) t t'
+all_move x [] slots t slots' t' v d = leads_same (At x) ⊥ t t' v d.1
 all_move x (m ∷ ms) slots t slots' t' v (mid, between, one, others) =
     let first = writes x t between (moves m slots mid t between v one) in
-    leads_on x (Is x t between) (SomeMove (Is x) ms mid between slots' t' others) t between t' first (all_move x ms mid between slots' t' first.valid others)
+    leads_on (At x) (Is x t between) (SomeMove (Is x) ms mid between slots' t' others) t between t' first (all_move x ms mid between slots' t' first.valid others)
 
-round : (x : Spot) (slots slots' : List Slot) (t t' : Tower) → IsTower t → (d : IsRound slots slots' t t') → Leads x (SomeOfRound (Is x) slots slots' t t' d) t t'
+round : (x : Spot) (slots slots' : List Slot) (t t' : Tower) → IsTower t → (d : IsRound slots slots' t t') → Leads (At x) (SomeOfRound (Is x) slots slots' t t' d) t t'
 round x slots slots' t t' v d =
     let taken = all_move x d.takes slots t slots d.taken v d.do_take in
     let clocked = all_move x d.dues slots d.taken slots d.clocked taken.valid d.do_dues in
     let left = all_move x d.leaves slots d.clocked slots' t' clocked.valid d.do_leave in
-    leads_on x _ _ t d.taken t' taken (leads_on x _ _ d.taken d.clocked t' clocked left)
-
-rounds_by : (x : Spot) (rounds : Rounds) (slots : List Slot) (t : Tower) (slots' : List Slot) (t' : Tower) → IsTower t → (d : RoundsBy rounds slots t slots' t') → Leads x (SomeAfter (Is x) rounds slots t slots' t' d) t t'
-rounds_by x Auto slots t slots' t' v d = round x slots slots' t t' v d
-rounds_by x Manual slots t slots' t' v d = leads_same x ⊥ t t' v d.1
+    leads_on (At x) _ _ t d.taken t' taken (leads_on (At x) _ _ d.taken d.clocked t' clocked left)
 
 -- ---- ticks
 
--- a quiet part before
-after_quiet : (x : Spot) (S : Type 0) (t u v : Tower) → Leads x ⊥ t u → Leads x S u v → Leads x S t v
-after_quiet x S t u v f g = record {
-  valid = g.valid;
-  back = λ h. elim (g.back h) [
-    | inl o ↦ elim (f.back o) [ inl z ↦ inl z | inr none ↦ absurd none ]
-    | inr s ↦ inr s
-  ];
-}
-
-tick : (x : Spot) (t t' : Tower) → Ticked Never t t' → Leads x ⊥ t t'
-tick x t t' k = record { valid = k.valid; back = quiet_back x t t' k.height k.grows }
-
-all_ticks : (x : Spot) (plan : Plan) (line count : ℕ) (s : Stage) (ns : List Note) (s' : Stage) → IsTower s.run.tower → (d : Ticks plan line count s ns s') → Leads x (SomeOfTicks (Is x) plan line count s ns s' d) s.run.tower s'.run.tower
-all_ticks x plan line zero s ns s' v d = leads_same x ⊥ s.run.tower s'.run.tower v (ap (λ (z : Stage). z.run.tower) d.1)
-all_ticks x plan line (suc count) s ns s' v (mid, first, rest, once, others, told) =
-    let ticked = tick x s.run.tower once.ticked (ticks Never (Ok tt) s.run.tower once.ticked v once.ticks) in
-    let rounded = rounds_by x plan.rounds s.shelf once.ticked mid.shelf mid.run.tower ticked.valid once.rounds in
-    leads_on x _ _ s.run.tower mid.run.tower s'.run.tower (after_quiet x _ s.run.tower once.ticked mid.run.tower ticked rounded) (all_ticks x plan line count mid rest s' rounded.valid others)
-
-ticking : (x : Spot) (over : Bool) (plan : Plan) (line count : ℕ) (s : Stage) (ns : List Note) (s' : Stage) → IsTower s.run.tower → (d : Ticking over plan line count s ns s') → Leads x (SomeOfTicking (Is x) over plan line count s ns s' d) s.run.tower s'.run.tower
-ticking x true plan line count s ns s' v d = leads_same x ⊥ s.run.tower s'.run.tower v (ap (λ (z : Stage). z.run.tower) d.1)
-ticking x false plan line count s ns s' v d = all_ticks x plan line count s d.told s' v d.ticks
+tick : (x : Spot) → TicksLead (At x)
+tick x t t' v d = (let k = ticks Never (Ok tt) t t' v d in record { valid = k.valid; back = quiet_back x t t' k.height k.grows })
 
 -- ---- words and lines
 
-word : (x : Spot) (plan : Plan) (line : ℕ) (event : Event) (s : Stage) (ns : List Note) (s' : Stage) → IsTower s.run.tower → (d : Acts plan line event s ns s') → Leads x (SomeOfWord (Is x) plan line event s ns s' d) s.run.tower s'.run.tower
-word x plan line (events.Tick count) s ns s' v d = ticking x (nat_lt 10000000 (now_of s.run.tower + count)) plan line count s ns s' v d
+word : (x : Spot) (plan : Plan) (line : ℕ) (event : Event) (s : Stage) (ns : List Note) (s' : Stage) → IsTower s.run.tower → (d : Acts plan line event s ns s') → Leads (At x) (SomeOfWord (Is x) plan line event s ns s' d) s.run.tower s'.run.tower
+word x plan line (events.Tick count) s ns s' v d = ticking (At x) (Is x) (round x) (tick x) (nat_lt 10000000 (now_of s.run.tower + count)) plan line count s ns s' v d
 word x plan line events.Round s ns s' v d = round x s.shelf s'.shelf s.run.tower s'.run.tower v d.does
 word x plan line (events.In dif node link) s ns s' v d = writes x s.run.tower s'.run.tower (words plan line (events.In dif node link) s.run ns s'.run v d.0)
 word x plan line (events.Clock dif node) s ns s' v d = writes x s.run.tower s'.run.tower (words plan line (events.Clock dif node) s.run ns s'.run v d.0)
 word x plan line (events.Out dif node link) s ns s' v d = writes x s.run.tower s'.run.tower (lets plan line dif node link s ns s' v d)
 word x plan line (events.Free label) s ns s' v d = writes x s.run.tower s'.run.tower (words plan line (events.Free label) s.run ns s'.run v d.0)
-word x plan line (events.Retire policy) s ns s' v d = leads_same x ⊥ s.run.tower s'.run.tower v (ap (λ (w : Run). w.tower) d.run)
+word x plan line (events.Retire policy) s ns s' v d = leads_same (At x) ⊥ s.run.tower s'.run.tower v (ap (λ (w : Run). w.tower) d.run)
 word x plan line event s ns s' v d = quiet x s.run.tower s'.run.tower (words plan line event s.run ns s'.run v d.0)
-
-line_does : (x : Spot) (plan : Plan) (number : ℕ) (asks : Result (Option Event) LineError) (s : Stage) (ns : List Note) (s' : Stage) → IsTower s.run.tower → (d : LineDoes plan number asks s ns s') → Leads x (SomeOfLine (Is x) plan number asks s ns s' d) s.run.tower s'.run.tower
-line_does x plan number (Ok None) s ns s' v d = leads_same x ⊥ s.run.tower s'.run.tower v (ap (λ (z : Stage). z.run.tower) d.1)
-line_does x plan number (Ok (Some event)) s ns s' v d =
-    let first = word x plan number event s d.answer d.mid v d.acts in
-    leads_on x _ _ s.run.tower d.mid.run.tower s'.run.tower first (rounds_by x (rounds_after plan.rounds event) d.mid.shelf d.mid.run.tower s'.shelf s'.run.tower first.valid d.rounds)
-line_does x plan number (Err e) s ns s' v d = absurd d
-
-runs : (x : Spot) (plan : Plan) (number : ℕ) (s : Stage) (lines : List (List ℕ)) (ns : List Note) (s' : Stage) → IsTower s.run.tower → (d : Runs plan number s lines ns s') → Leads x (SomeStep (Is x) plan number s lines ns s' d) s.run.tower s'.run.tower
-runs x plan number s [] ns s' v d = leads_same x ⊥ s.run.tower s'.run.tower v (ap (λ (z : Stage). z.run.tower) d.1)
-runs x plan number s (l ∷ ls) ns s' v (mid, first, rest, does, others, told) =
-    let one = line_does x plan number (event_at l) s first mid v does in
-    leads_on x _ _ s.run.tower mid.run.tower s'.run.tower one (runs x plan (number + 1) mid ls rest s' one.valid others)
 
 -- ---- no ledger has a line at the start
 
@@ -176,7 +117,7 @@ none_before (Rank' p difs below) r n i k off v new h = elim (eqb_tells r (height
 pub lines_have_causes : LinesHaveCauses
 lines_have_causes plan shelf start lines ns s o d r n i k off h =
     let x : Spot = record { rank = r; dif = n; process = i; place = k; off = off } in
-    elim ((runs x plan 1 start lines ns s o.stands d).back h) [
+    elim ((runs (At x) (Is x) (round x) (word x) plan 1 start lines ns s o.stands d).back h) [
       | inl old ↦ absurd (none_before start.run.tower r n i k off o.stands (difs_start plan shelf start o) old)
       | inr step ↦ step
     ]
