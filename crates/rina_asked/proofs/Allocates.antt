@@ -9,6 +9,7 @@ use Rattle.rina_alloc.specs.declared.message.FlowWord.{FlowWord}
 use Rattle.rina_alloc.specs.declared.message.FlowWord.TheVariants as words
 use Rattle.rina_alloc.specs.Messages.{IsInRange, IsProper, IsSpelled}
 use Rattle.rina_alloc.proofs.Guesses.{one_message}
+use Rattle.rina_agent.specs.declared.agent.Agent.{Agent}
 use Rattle.rina_agent.specs.declared.message.ManagementMessage.{ManagementMessage}
 use Rattle.rina_agent.specs.declared.message.ManagementMessage.TheVariants.{ToMember}
 use Rattle.rina_agent.specs.declared.message.Waiting.{Waiting}
@@ -41,6 +42,7 @@ use Rattle.rina_dif.specs.declared.dif.Dif.{Dif}
 use Rattle.rina_dif.specs.Allocating.{allocate_refusal, member_refusal, way}
 use Rattle.rina_dif.specs.Elsewhere.{enrolled_home, home_of}
 use Rattle.rina_dif.specs.Facade.{GoesOn}
+use Rattle.rina_dif.specs.FlowMessages.{IsTextOf}
 use Rattle.rina_dif.specs.Holding.{Holds}
 use Rattle.rina_dif.specs.Posting.{posts}
 use Rattle.rina_dif.specs.Requesting.{AsksAt, AsksTo, Requests, RequestsAs, request_of, with_invoke_at}
@@ -53,19 +55,19 @@ use Rattle.rina_dif.proofs.Requested.{asked_few, free_member, one_left}
 use Rattle.rina_asked.specs.Alone.{AreAlone, IsName, all_waiting, asks, is_asker, is_far, is_of, one, text_asks}
 use Rattle.rina_asked.specs.Ends.{HaveEnds, HasEnd, IsAskersEnd}
 use Rattle.rina_asked.specs.Calls.{AllocateKeeps}
-use Rattle.rina_asked.specs.Messages.{IsTextOf}
-use Rattle.rina_asked.proofs.Askers.{askers_go_on, names_more, names_seen}
+use Rattle.rina_asked.proofs.Askers.{KeepAskers, askers_go_on, names_more, names_seen}
+use Rattle.rina_asked.proofs.Drawn.{KeepsIds, more_drawn}
 use Rattle.rina_asked.proofs.Fewer.{one_end}
 use Rattle.rina_asked.proofs.Names.{bytes_name}
 use Rattle.rina_asked.proofs.Keeps.{asked_by, stays}
-use Rattle.rina_asked.proofs.Quiet.{IsQuiet, Lasts, alone_lasts, ends_last, ends_seen, quiet_by}
+use Rattle.rina_asked.proofs.Quiet.{IsQuiet, LastsSame, alone_lasts, ends_last, ends_seen, lasts_same, quiet_by}
 use Rattle.rina_asked.proofs.Links.{links_same}
 use Rattle.rina_asked.proofs.Texts.{same_operation, IsAskedText, other_asked, same_cube}
 use Rattle.rina_asked.proofs.Waiting.{agenda_same, Adds, HasWaiting, IsOther, added_on, changed_adds, posted_adds, posted_once, same_added}
 
 -- What nothing refuses
 
-none_refused : (d : Dif) (ask : Ask) (own : Option AllocateError) → refused_in (Some (fac_of (seen_of d))) ask own ≡ None → own ≡ None
+pub none_refused : (d : Dif) (ask : Ask) (own : Option AllocateError) → refused_in (Some (fac_of (seen_of d))) ask own ≡ None → own ≡ None
 none_refused d ask own none = go (is_member (fac_of (seen_of d)).members ask.node) (offered (fac_of (seen_of d)).cubes ask.want) none
   where
     go : (b : Bool) (o : Option Offer) → cond b (unless_offered o own) (Some allocate.NoMember) ≡ None → own ≡ None
@@ -73,7 +75,7 @@ none_refused d ask own none = go (is_member (fac_of (seen_of d)).members ask.nod
     go true None h = absurd cc
     go false o h = absurd cc
 
-here_home : (d : Dif) (node place : ℕ) → enrolled_home d node ≡ Some place → home_of d node ≡ Some place
+pub here_home : (d : Dif) (node place : ℕ) → enrolled_home d node ≡ Some place → home_of d node ≡ Some place
 here_home d node place = go (is_member d.enrolled node) (home_of d node)
   where
     go : (b : Bool) (o : Option ℕ) → cond b o None ≡ Some place → o ≡ Some place
@@ -92,6 +94,10 @@ power_small w (inr (inr e)) = rw e (omega arith)
 
 pub fits_four : (w n : ℕ) → IsWidth w → n < 2 ^ (8 * w) → n < 4294967296
 fits_four w n is fits = (let small = power_small w is in omega (arith, fits, small))
+
+-- a member draws one invoke id
+pub drawn_one : (a : Agent) → KeepsIds a (with_invoke a)
+drawn_one a = more_drawn a (with_invoke a) refl (omega arith)
 
 -- The request, and the end that is made
 
@@ -118,7 +124,7 @@ module _ (d d' : Dif) (ask : Ask) (port : Port) (is : IsDif d) (lines : List Dir
   addr_is : a.asked.member.addr ≡ flow.near.addr
   addr_is = ap (λ (z : Shown). z.addr) member_is ∙ sym r.wanted.draws.addr
 
-  cep_is : a.asked.cep ≡ flow.near.cep
+  pub cep_is : a.asked.cep ≡ flow.near.cep
   cep_is = same_draw d.ids d.clock a.asked.place flow.near.place a.asked.cep flow.near.cep place_is a.asked.draws r.wanted.draws.cep
 
   cube_is : a.cube ≡ flow.cube
@@ -134,25 +140,25 @@ module _ (d d' : Dif) (ask : Ask) (port : Port) (is : IsDif d) (lines : List Dir
   abbrev place : ℕ
   place = length d.flows.journal.ends
 
-  abbrev end : End
+  abbrev pub end : End
   end = end_asked (seen_of d) (record { node = ask.node; app = ask.app; to = ask.to; cube = a.cube.id; peer = a.peer }) a.asked.member
 
-  abbrev names : Ids
+  abbrev pub names : Ids
   names = ids_asked (record { node = ask.node; app = ask.app; to = ask.to; cube = a.cube.id; peer = a.peer }) a.asked.member a.asked.cep
 
-  end_there : slice_get d'.flows.journal.ends place ≡ Some end
+  pub end_there : slice_get d'.flows.journal.ends place ≡ Some end
   end_there = ap (λ (z : DifSeen). slice_get z.ends place) a.asked.new_is ∙ last_at d.flows.journal.ends end
 
-  names_there : slice_get (conns_of d'.flows.conns) place ≡ Some names
+  pub names_there : slice_get (conns_of d'.flows.conns) place ≡ Some names
   names_there = ap (λ (z : DifSeen). slice_get z.conns place) a.asked.new_is ∙ ap (λ (k : ℕ). slice_get (conns_of d.flows.conns ++ names ∷ []) k) (sym h.standing.own.alike) ∙ last_at (conns_of d.flows.conns) names
 
-  abbrev conn : (conn : Conn) × (slice_get d'.flows.conns place ≡ Some conn) × (ids_of conn ≡ names)
+  abbrev pub conn : (conn : Conn) × (slice_get d'.flows.conns place ≡ Some conn) × (ids_of conn ≡ names)
   conn = map_at ids_of d'.flows.conns place names names_there
 
   abbrev named_by : ℕ → FlowName
   named_by x = record { src = x; tick = d.clock; count = asked_at ask.node d.flows.journal.ends }
 
-  name_is : end.flow ≡ flow.flow
+  pub name_is : end.flow ≡ flow.flow
   name_is = ap named_by addr_is ∙ sym r.wanted.name
 
   asker : IsAskersEnd d' place flow.far flow.near.addr its_ask
@@ -165,7 +171,7 @@ module _ (d d' : Dif) (ask : Ask) (port : Port) (is : IsDif d) (lines : List Dir
   }
 
   -- its numbers
-  addr_fits : flow.near.addr < 4294967296
+  pub addr_fits : flow.near.addr < 4294967296
   addr_fits = subst (λ (n : ℕ). n < 4294967296) addr_is (fits_four d.settings.widths.addr a.asked.member.addr h.standing.config.widths.addr (h.numbered.members.fit a.asked.place a.asked.member a.asked.stands))
 
   far_fits : flow.far < 4294967296
@@ -204,33 +210,40 @@ module _ (d d' : Dif) (ask : Ask) (port : Port) (is : IsDif d) (lines : List Dir
       }
 
   -- the message of a text of the request is the request
-  by_word : (to from : ℕ) (word : FlowWord) (text : List ℕ) → IsTextOf (record { to = to; from = from; word = word }) text → IsSpelled request text → IsProper request.word → HasEnd d' to from word
-  by_word to from (words.Ask number other) text of spelled proper =
-      let cube : other.cube ≡ flow.cube.id = same_cube to from number flow.far flow.near.addr invoke other its_ask text of.spelled spelled in
-      let range = in_range (subst (λ (n : ℕ). n < 256) cube of.in_range.word.1.cube) in
-      let same = one_message request (record { to = to; from = from; word = words.Ask number other }) text range of.in_range proper of.proper spelled of.spelled in
-      subst (λ (m : FlowMessage). HasEnd d' m.to m.from m.word) same (place, asker)
-  by_word to from (words.Answer number answer) text of spelled proper = absurd (let wrong = same_operation request (record { to = to; from = from; word = words.Answer number answer }) text spelled of.spelled in cc)
-  by_word to from (words.Delete dcep scep) text of spelled proper = tt
+  pub is_request : (m : FlowMessage) (text : List ℕ) → IsTextOf m text → IsSpelled request text → IsProper request.word → request ≡ m
+  is_request m text of spelled proper = by_word m.to m.from m.word of
+    where
+      by_word : (to from : ℕ) (word : FlowWord) → IsTextOf (record { to = to; from = from; word = word }) text → request ≡ record { to = to; from = from; word = word }
+      by_word to from (words.Ask number other) of =
+          let cube : other.cube ≡ flow.cube.id = same_cube to from number flow.far flow.near.addr invoke other its_ask text of.spelled spelled in
+          let range = in_range (subst (λ (n : ℕ). n < 256) cube of.in_range.word.1.cube) in
+          one_message request (record { to = to; from = from; word = words.Ask number other }) text range of.in_range proper of.proper spelled of.spelled
+      by_word to from (words.Answer number answer) of = absurd (let wrong = same_operation request (record { to = to; from = from; word = words.Answer number answer }) text spelled of.spelled in cc)
+      by_word to from (words.Delete dcep scep) of = absurd (let wrong = same_operation request (record { to = to; from = from; word = words.Delete dcep scep }) text spelled of.spelled in cc)
 
-  abbrev IsNew : ManagementMessage → Type 0
+  -- where it waits its names are names
+  pub is_proper : (w : Waiting) → HasWaiting d'.managements w → w.message ≡ ToMember request → IsProper request.word
+  is_proper w has same = (let short = (tell_short d' below (a.lines', a.holds) has.place has.management has.is_management).waiting w has.waits in subst IsShort same short)
+
+  abbrev pub IsNew : ManagementMessage → Type 0
   IsNew x = IsOther x ⊎ (x ≡ ToMember request)
 
-  adds : Adds IsNew d.managements d'.managements
+  pub adds : Adds IsNew d.managements d'.managements
   adds =
       let mid : List Management = posts d flow.near.place request d.managements in
-      subst (Adds IsNew d.managements) (sym r.managed) (added_on IsNew d.managements mid (with_invoke_at flow.near.place mid) (posted_adds IsNew flow.near.place (way d flow.near.place request.to) request d.managements (inr refl)) (changed_adds IsNew flow.near.place (λ m. record m { agent = with_invoke m.agent }) mid (λ m. agenda_same IsNew m (record m { agent = with_invoke m.agent }) refl)))
+      subst (Adds IsNew d.managements) (sym r.managed) (added_on IsNew d.managements mid (with_invoke_at flow.near.place mid) (posted_adds IsNew flow.near.place (way d flow.near.place request.to) request d.managements (inr refl)) (changed_adds IsNew flow.near.place (λ m. record m { agent = with_invoke m.agent }) mid (λ m. agenda_same IsNew m (record m { agent = with_invoke m.agent }) refl (drawn_one m.agent))))
 
   new_asked : (w : Waiting) (text : List ℕ) → HasWaiting d'.managements w → IsNew w.message → IsSduOf w.message text → IsAskedText d' text
   new_asked w text has (inl other) sdu = other_asked d' w.message text other sdu
   new_asked w text has (inr same) sdu =
-      let short = (tell_short d' below (a.lines', a.holds) has.place has.management has.is_management).waiting w has.waits in
-      let proper : IsProper request.word = subst IsShort same short in
       let spelled : IsSpelled request text = subst (λ (x : ManagementMessage). IsSduOf x text) same sdu in
-      λ m of. by_word m.to m.from m.word text of spelled proper
+      λ m of. subst (λ (z : FlowMessage). HasEnd d' z.to z.from z.word) (is_request m text of spelled (is_proper w has same)) (place, asker)
+
+  pub ends_keep : GoesOn d d' → KeepAskers d d'
+  ends_keep goes = askers_go_on d d' goes (names_more (conns_of d.flows.conns) (conns_of d'.flows.conns) (names ∷ []) (ap (λ (z : DifSeen). z.conns) a.asked.new_is))
 
   pub asked_for : GoesOn d d' → d'.connections ≡ d.connections → HaveEnds d → HaveEnds d'
-  asked_for goes connections = asked_by IsNew d d' (askers_go_on d d' goes (names_more (conns_of d.flows.conns) (conns_of d'.flows.conns) (names ∷ []) (ap (λ (z : DifSeen). z.conns) a.asked.new_is))) adds new_asked (λ text on. inr ((links_same d d' connections).more text on))
+  asked_for goes connections = asked_by IsNew d d' (ends_keep goes) adds new_asked (λ text on. inr ((links_same d d' connections).more text on))
 
   -- of its flow there are one ask and one asker's end more
   its_name : IsName its_ask.flow
@@ -242,11 +255,11 @@ module _ (d d' : Dif) (ask : Ask) (port : Port) (is : IsDif d) (lines : List Dir
         count = subst (λ (f : FlowName). f.count < 4294967296) (sym r.wanted.name) (omega (arith, count_fits));
       }
 
-  one_asked : (F : ManagementMessage → ℕ) → all_waiting F d'.managements ≤ all_waiting F d.managements + F (ToMember request)
+  pub one_asked : (F : ManagementMessage → ℕ) → all_waiting F d'.managements ≤ all_waiting F d.managements + F (ToMember request)
   one_asked F =
       let mid : List Management = posts d flow.near.place request d.managements in
       let put = posted_once F flow.near.place (way d flow.near.place request.to) request d.managements in
-      let drawn = (changed_adds (λ x. ⊥) flow.near.place (λ m. record m { agent = with_invoke m.agent }) mid (λ m. agenda_same (λ x. ⊥) m (record m { agent = with_invoke m.agent }) refl)).fewer F (λ x no. absurd no) in
+      let drawn = (changed_adds (λ x. ⊥) flow.near.place (λ m. record m { agent = with_invoke m.agent }) mid (λ m. agenda_same (λ x. ⊥) m (record m { agent = with_invoke m.agent }) refl (drawn_one m.agent))).fewer F (λ x no. absurd no) in
       let path = ap (all_waiting F) r.managed in
       omega (arith, put, drawn, path)
 
@@ -268,27 +281,27 @@ refused_quiet : (d d' : Dif) → GoesOn d d' → seen_of d' ≡ seen_of d → d'
 refused_quiet d d' goes seen managements connections = quiet_by d d' (askers_go_on d d' goes (names_seen d d' seen)) (ends_seen d d' seen) (same_added IsOther d.managements d'.managements managements) (links_same d d' connections)
 
 -- what such an ask keeps
-abbrev AsksKeep : (Dif → Type 0) → Type 0
+abbrev pub AsksKeep : (Dif → Type 0) → Type 0
 AsksKeep P = (d d' : Dif) (ask : Ask) (port : Port) → IsDif d → (lines : List Direction) (below : Seen) → Holds d lines below → AsksAt d lines below ask port d' → Requests d ask port d' → allocate_refusal d ask ≡ None → GoesOn d d' → d'.connections ≡ d.connections → P d → P d'
 
-by_answer : (P : Dif → Type 0) → Lasts P → AsksKeep P → (d d' : Dif) (ask : Ask) (result : Result Port AllocateError) → IsDif d → (lines : List Direction) (below : Seen) → Holds d lines below → AsksTo d lines below ask result d' → RequestsAs result d ask d' → GoesOn d d' → d'.connections ≡ d.connections → (result ≡ Err allocate.Memory → ⊥) → P d → P d'
+by_answer : (P : Dif → Type 0) → LastsSame P → AsksKeep P → (d d' : Dif) (ask : Ask) (result : Result Port AllocateError) → IsDif d → (lines : List Direction) (below : Seen) → Holds d lines below → AsksTo d lines below ask result d' → RequestsAs result d ask d' → GoesOn d d' → d'.connections ≡ d.connections → (result ≡ Err allocate.Memory → ⊥) → P d → P d'
 by_answer P lasts asks d d' ask (Ok port) is lines below h a r goes connections some = asks d d' ask port is lines below h a.1 r (none_refused d ask (allocate_refusal d ask) a.0) goes connections
 by_answer P lasts asks d d' ask (Err allocate.Memory) is lines below h a r goes connections some = absurd (some refl)
-by_answer P lasts asks d d' ask (Err allocate.NoMember) is lines below h a r goes connections some = lasts d d' (refused_quiet d d' goes a.1 r.0 connections)
-by_answer P lasts asks d d' ask (Err allocate.NoCube) is lines below h a r goes connections some = lasts d d' (refused_quiet d d' goes a.1 r.0 connections)
-by_answer P lasts asks d d' ask (Err allocate.NoSuchApp) is lines below h a r goes connections some = lasts d d' (refused_quiet d d' goes a.1 r.0 connections)
-by_answer P lasts asks d d' ask (Err allocate.SameSystem) is lines below h a r goes connections some = lasts d d' (refused_quiet d d' goes a.1 r.0 connections)
-by_answer P lasts asks d d' ask (Err (allocate.NoIds used)) is lines below h a r goes connections some = lasts d d' (refused_quiet d d' goes a.1 r.0 connections)
-by_answer P lasts asks d d' ask (Err (allocate.NoRoute dst)) is lines below h a r goes connections some = lasts d d' (refused_quiet d d' goes a.1 r.0 connections)
-by_answer P lasts asks d d' ask (Err (allocate.Busy other)) is lines below h a r goes connections some = lasts d d' (refused_quiet d d' goes a.1 r.0 connections)
-by_answer P lasts asks d d' ask (Err (allocate.CountSpent need left)) is lines below h a r goes connections some = lasts d d' (refused_quiet d d' goes a.1 r.0 connections)
+by_answer P lasts asks d d' ask (Err allocate.NoMember) is lines below h a r goes connections some = lasts d d' (refused_quiet d d' goes a.1 r.0 connections) r.1
+by_answer P lasts asks d d' ask (Err allocate.NoCube) is lines below h a r goes connections some = lasts d d' (refused_quiet d d' goes a.1 r.0 connections) r.1
+by_answer P lasts asks d d' ask (Err allocate.NoSuchApp) is lines below h a r goes connections some = lasts d d' (refused_quiet d d' goes a.1 r.0 connections) r.1
+by_answer P lasts asks d d' ask (Err allocate.SameSystem) is lines below h a r goes connections some = lasts d d' (refused_quiet d d' goes a.1 r.0 connections) r.1
+by_answer P lasts asks d d' ask (Err (allocate.NoIds used)) is lines below h a r goes connections some = lasts d d' (refused_quiet d d' goes a.1 r.0 connections) r.1
+by_answer P lasts asks d d' ask (Err (allocate.NoRoute dst)) is lines below h a r goes connections some = lasts d d' (refused_quiet d d' goes a.1 r.0 connections) r.1
+by_answer P lasts asks d d' ask (Err (allocate.Busy other)) is lines below h a r goes connections some = lasts d d' (refused_quiet d d' goes a.1 r.0 connections) r.1
+by_answer P lasts asks d d' ask (Err (allocate.CountSpent need left)) is lines below h a r goes connections some = lasts d d' (refused_quiet d d' goes a.1 r.0 connections) r.1
 
-allocate_keeps : (P : Dif → Type 0) → Lasts P → AsksKeep P → AllocateKeeps P
+pub allocate_keeps : (P : Dif → Type 0) → LastsSame P → AsksKeep P → AllocateKeeps P
 allocate_keeps P lasts asks d d' ask result is does requests goes whole notes = stays P d d' result (Err allocate.Memory) notes (λ some.
     by_answer P lasts asks d d' ask result is is.stands.0 is.below is.stands.1 (does is.stands.0 is.below is.stands.1) requests goes (ap (λ (z : Dif). z.connections) whole) some)
 
 pub allocate_keeps_ends : AllocateKeeps HaveEnds
-allocate_keeps_ends = allocate_keeps HaveEnds ends_last asked_for
+allocate_keeps_ends = allocate_keeps HaveEnds (lasts_same HaveEnds ends_last) asked_for
 
 pub allocate_keeps_alone : AllocateKeeps AreAlone
-allocate_keeps_alone = allocate_keeps AreAlone alone_lasts alone_for
+allocate_keeps_alone = allocate_keeps AreAlone (lasts_same AreAlone alone_lasts) alone_for

@@ -4,9 +4,9 @@ use Rattle.std.proofs.lemmas.List.Sums.{sum_by-cons}
 use Rattle.std.proofs.lemmas.Option.{none-some, same_Some, slice_get-map}
 use Rattle.rina_account.specs.declared.ledger.Off.{Off}
 use Rattle.rina_alloc.specs.declared.message.FlowMessage.{FlowMessage}
+use Rattle.rina_alloc.specs.Messages.{IsSpelled}
 use Rattle.rina_base.specs.declared.cause.Cause.{Cause}
 use Rattle.rina_base.specs.declared.cause.Cause.TheVariants as causes
-use Rattle.rina_base.specs.declared.number.FlowName.{FlowName}
 use Rattle.rina_base.specs.declared.number.Port.{Port}
 use Rattle.rina_base.specs.declared.pdu.Pdu.{Pdu}
 use Rattle.rina_base.specs.declared.pdu.PduKind.{PduKind}
@@ -50,19 +50,14 @@ use Rattle.rina_dif.proofs.Hearing.{side_across}
 use Rattle.rina_dif.proofs.NamedByPlace.{taken_named}
 use Rattle.rina_dif.proofs.OnLinks.{taker_at}
 use Rattle.rina_dif.proofs.Partners.{got_from, paired_with}
-use Rattle.rina_asked.specs.Ends.{HaveEnds}
-use Rattle.rina_asked.specs.Alone.{all_on_links, one, text_asks, word_asks}
-use Rattle.rina_asked.specs.Messages.{IsOnLink, on_link}
-use Rattle.rina_asked.proofs.Flows.{AllAsked}
-use Rattle.rina_asked.proofs.Keeps.{way_asked}
+use Rattle.rina_asked.specs.Alone.{all_on_links}
+use Rattle.rina_asked.specs.Messages.{IsMessage, IsOnLink, on_link}
+use Rattle.rina_asked.proofs.Flows.{AllOf}
 use Rattle.rina_asked.proofs.Links.{handled_each, handled_length, one_fewer, said_path, set_offers}
-use Rattle.rina_asked.proofs.Walk.{in_hand}
-use Rattle.rina_asked.proofs.Weights.{flow_text}
-use Rattle.rina_asked.proofs.Texts.{IsAskedText, one_text}
 
 -- Places in lists
 
-at_contains : {X : Type 0} (xs : List X) (n : ℕ) (x : X) → slice_get xs n ≡ Some x → Contains xs x
+pub at_contains : {X : Type 0} (xs : List X) (n : ℕ) (x : X) → slice_get xs n ≡ Some x → Contains xs x
 at_contains [] n x is = absurd cc
 at_contains (y ∷ ys) zero x is = (let same : y ≡ x = cc in subst (λ z. Contains (y ∷ ys) z) same (head y ys))
 at_contains (y ∷ ys) (suc n) x is = tail y ys x (at_contains ys n x is)
@@ -84,27 +79,28 @@ drop_at (suc k) (y ∷ ys) x h = (let r = drop_at k ys x h in let le = r.1 in (s
 
 -- The messages that are read of texts
 
-read_asked : (d : Dif) (sdu : List ℕ) (read : Option FlowMessage) (rest : List FlowMessage) → IsReadAs sdu read → IsAskedText d sdu → AllAsked d rest → AllAsked d (read_before read rest)
-read_asked d sdu None rest is asked all = all
-read_asked d sdu (Some m) rest is asked all = ((λ text spelled. subst (IsAskedText d) (one_text m sdu text is spelled) asked), all)
+read_among : (d : Dif) (sdu : List ℕ) (read : Option FlowMessage) (rest : List FlowMessage) → IsReadAs sdu read → IsOnLink d sdu → AllOf (IsMessage d) rest → AllOf (IsMessage d) (read_before read rest)
+read_among d sdu None rest is on all = all
+read_among d sdu (Some m) rest is on all = (record { text = sdu; on_way = inr on; is = is }, all)
 
-pub messages_asked : (d : Dif) (sdus : List (List ℕ)) (ms : List FlowMessage) → ((sdu : List ℕ) → Contains sdus sdu → IsAskedText d sdu) → AreFlowMessages sdus ms → AllAsked d ms
-messages_asked d [] ms asked none = subst (AllAsked d) (sym none) tt
-messages_asked d (sdu ∷ sdus) ms asked are = subst (AllAsked d) (sym are.4) (read_asked d sdu are.0 are.1 are.2 (asked sdu (head sdu sdus)) (messages_asked d sdus are.1 (λ x has. asked x (tail sdu sdus x has)) are.3))
+all_among : (d : Dif) (sdus : List (List ℕ)) (ms : List FlowMessage) → ((sdu : List ℕ) → Contains sdus sdu → IsOnLink d sdu) → AreFlowMessages sdus ms → AllOf (IsMessage d) ms
+all_among d [] ms on none = subst (AllOf (IsMessage d)) (sym none) tt
+all_among d (sdu ∷ sdus) ms on are = subst (AllOf (IsMessage d)) (sym are.4) (read_among d sdu are.0 are.1 are.2 (on sdu (head sdu sdus)) (all_among d sdus are.1 (λ x has. on x (tail sdu sdus x has)) are.3))
 
--- no more asks are read than there are texts of asks
-read_one : (f : FlowName) (sdu : List ℕ) (read : Option FlowMessage) (rest : List FlowMessage) → IsReadAs sdu read → in_hand f (read_before read rest) ≤ one (text_asks f sdu) + in_hand f rest
-read_one f sdu None rest is = omega arith
-read_one f sdu (Some m) rest is = (let weighs = ap one (flow_text f m sdu is) in let whole = sum_by-cons (λ (x : FlowMessage). one (word_asks f x.word)) m rest in omega (arith, weighs, whole))
+-- no more messages are read than there are texts of them, where a text counts as its message
+module _ (F : FlowMessage → ℕ) (G : List ℕ → ℕ) (weighs : (m : FlowMessage) (text : List ℕ) → IsSpelled m text → G text ≡ F m) where
+  read_one : (sdu : List ℕ) (read : Option FlowMessage) (rest : List FlowMessage) → IsReadAs sdu read → sum_by F (read_before read rest) ≤ G sdu + sum_by F rest
+  read_one sdu None rest is = omega arith
+  read_one sdu (Some m) rest is = (let same = weighs m sdu is.spelled in let whole = sum_by-cons F m rest in omega (arith, same, whole))
 
-read_fewer : (f : FlowName) (sdus : List (List ℕ)) (ms : List FlowMessage) → AreFlowMessages sdus ms → in_hand f ms ≤ sum_by (λ t. one (text_asks f t)) sdus
-read_fewer f [] ms none = (let path = ap (in_hand f) none in omega (arith, path))
-read_fewer f (sdu ∷ sdus) ms are =
-    let path = ap (in_hand f) are.4 in
-    let here = read_one f sdu are.0 are.1 are.2 in
-    let rest = read_fewer f sdus are.1 are.3 in
-    let whole = sum_by-cons (λ (t : List ℕ). one (text_asks f t)) sdu sdus in
-    omega (arith, path, here, rest, whole)
+  read_fewer : (sdus : List (List ℕ)) (ms : List FlowMessage) → AreFlowMessages sdus ms → sum_by F ms ≤ sum_by G sdus
+  read_fewer [] ms none = (let path = ap (sum_by F) none in omega (arith, path))
+  read_fewer (sdu ∷ sdus) ms are =
+      let path = ap (sum_by F) are.4 in
+      let here = read_one sdu are.0 are.1 are.2 in
+      let rest = read_fewer sdus are.1 are.3 in
+      let whole = sum_by-cons G sdu sdus in
+      omega (arith, path, here, rest, whole)
 
 -- where one list is of the first texts of another
 sum_prefix : (G : List ℕ → ℕ) (k : ℕ) (xs : List Entry) (ys : List (List ℕ)) → ((n : ℕ) (x : Entry) → slice_get xs n ≡ Some x → slice_get ys n ≡ Some x.bytes) → k ≤ length xs → sum_by G (texts_of (drop k xs)) + sum_by G (drop (length xs) ys) ≡ sum_by G (drop k ys)
@@ -257,25 +253,33 @@ module _ (d : Dif) (i since : ℕ) (port : Port) (hop : Hop) (lines : List Direc
           let after = ap (sum_by G) rest_on in
           omega (arith, whole, texts, before, after)
 
-  pub brought_asked : (below' : Seen) → LinksStand taken below' → (ms : List FlowMessage) → BringsMessages d place its ms → HaveEnds d → AllAsked d ms
-  brought_asked below' stand ms brings asked =
+  pub brought_among : (below' : Seen) → LinksStand taken below' → (ms : List FlowMessage) → BringsMessages d place its ms → AllOf (IsMessage d) ms
+  brought_among below' stand ms brings =
       let b = brings end on.takes.is_conn.end in
-      messages_asked d (unpassed_sdus end ++ b.0) ms (λ sdu has. way_asked d sdu asked (inr (came below' stand b.0 b.1 sdu has))) b.2
+      all_among d (unpassed_sdus end ++ b.0) ms (came below' stand b.0 b.1) b.2
+
+  -- so was all that the end passes then
+  pub all_came : (below' : Seen) → LinksStand taken below' → (ms : List FlowMessage) → BringsMessages d place its ms → (e : End) → At taken.connections.flows.journal.ends place e → (sdu : List ℕ) → Contains (unpassed_sdus e) sdu → IsOnLink d sdu
+  all_came below' stand ms brings e is sdu has =
+      let b = brings end on.takes.is_conn.end in
+      let e_is : e ≡ its_end below' stand b.0 b.1 = same_Some e (its_end below' stand b.0 b.1) (sym is ∙ end_there below' stand b.0 b.1) in
+      let texts = more_unpassed m.ends m'.ends place b.0 end (more below' stand b.0 b.1) (passed below' stand b.0 b.1) in
+      came below' stand b.0 b.1 sdu (subst (λ (ts : List (List ℕ)). Contains ts sdu) texts (subst (λ (x : End). Contains (unpassed_sdus x) sdu) e_is has))
 
   -- the links have so much less then
   pub brought_fewer : (below' : Seen) → LinksStand taken below' → (handled : Dif) (e : End) → At taken.connections.flows.journal.ends place e → handled.connections.flows.journal.ends ≡ slice_set taken.connections.flows.journal.ends place (record e { taken = length e.got })
-      → (f : FlowName) (ms : List FlowMessage) → BringsMessages d place its ms → (links : ℕ) → (side_across place).0 < links → all_on_links (λ t. one (text_asks f t)) handled links + in_hand f ms ≤ all_on_links (λ t. one (text_asks f t)) d links
-  brought_fewer below' stand handled e is ends f ms brings links lt =
+      → (F : FlowMessage → ℕ) (G : List ℕ → ℕ) → ((m : FlowMessage) (text : List ℕ) → IsSpelled m text → G text ≡ F m) → (ms : List FlowMessage) → BringsMessages d place its ms → (links : ℕ) → (side_across place).0 < links → all_on_links G handled links + sum_by F ms ≤ all_on_links G d links
+  brought_fewer below' stand handled e is ends F G weighs ms brings links lt =
       let b = brings end on.takes.is_conn.end in
       let e_is : e ≡ its_end below' stand b.0 b.1 = same_Some e (its_end below' stand b.0 b.1) (sym is ∙ end_there below' stand b.0 b.1) in
       let change = subst (λ (x : End). handled.connections.flows.journal.ends ≡ slice_set m'.ends place (record x { taken = length x.got })) e_is ends in
-      let less = less_on below' stand b.0 b.1 (λ t. one (text_asks f t)) handled change in
+      let less = less_on below' stand b.0 b.1 G handled change in
       let said = taken_said m h.connected.lines (seen_of d).processes below h.connected.standing port hop.pdu dropped m' links' told takes in
       let long = (stand.standing.journal.whole place e is).taken in
-      let each : (l : ℕ) (side : Side) → sum_by (λ t. one (text_asks f t)) (on_link handled l side) ≤ sum_by (λ t. one (text_asks f t)) (on_link d l side) = λ l side.
-      (let path = ap (sum_by (λ t. one (text_asks f t))) (said_path d taken said l side) in
-      let now = handled_each taken handled place e (record e { taken = length e.got }) is ends refl long (omega arith) long (λ t. one (text_asks f t)) l side in
+      let each : (l : ℕ) (side : Side) → sum_by G (on_link handled l side) ≤ sum_by G (on_link d l side) = λ l side.
+      (let path = ap (sum_by G) (said_path d taken said l side) in
+      let now = handled_each taken handled place e (record e { taken = length e.got }) is ends refl long (omega arith) long G l side in
       omega (arith, path, now)) in
-      let all = one_fewer (λ t. one (text_asks f t)) d handled each (side_across place).0 (side_across place).1 (sum_by (λ t. one (text_asks f t)) (unpassed_sdus end ++ b.0)) less links lt in
-      let hand = read_fewer f (unpassed_sdus end ++ b.0) ms b.2 in
+      let all = one_fewer G d handled each (side_across place).0 (side_across place).1 (sum_by G (unpassed_sdus end ++ b.0)) less links lt in
+      let hand = read_fewer F G weighs (unpassed_sdus end ++ b.0) ms b.2 in
       omega (arith, all, hand)

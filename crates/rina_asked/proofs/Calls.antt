@@ -24,7 +24,6 @@ use Rattle.rina_law.specs.Direction.{Direction}
 use Rattle.rina_law.specs.Pieces.{Part}
 use Rattle.rina_dif_law.specs.Sending.{Offers}
 use Rattle.rina_flows.specs.Tied.{conns_of}
-use Rattle.rina_agent.specs.declared.agent.Agent.{Agent}
 use Rattle.rina_member.specs.declared.management.Management.{Management}
 use Rattle.rina_member.specs.Managements.{entered}
 use Rattle.rina_dif.specs.declared.dif.Dif.{Dif}
@@ -69,10 +68,10 @@ cdap_keeps P lasts d d' keeps h still =
 -- The flows change
 
 -- the connections stay, and as many ends stand behind them
-record IsCalm (d : Dif) (d' : Dif) (below' : Seen) : Type 0 where
-  conns : (seen_of d').conns ≡ (seen_of d).conns
-  lines' : List Direction
-  holds : Holds d' lines' below'
+pub record IsCalm (d : Dif) (d' : Dif) (below' : Seen) : Type 0 where
+  pub conns : (seen_of d').conns ≡ (seen_of d).conns
+  pub lines' : List Direction
+  pub holds : Holds d' lines' below'
 
 calm_names : (d d' : Dif) (below' : Seen) → IsCalm d d' below' → KeepNames (conns_of d.flows.conns) (conns_of d'.flows.conns)
 calm_names d d' below' c = names_same (conns_of d.flows.conns) (conns_of d'.flows.conns) c.conns
@@ -106,7 +105,7 @@ sends_nowhere d lines below sdu (Err (send.QueueFull need room)) d' s = seen_cal
 sends_nowhere d lines below sdu (Err (send.NoRoute dst)) d' s = seen_calm d d' lines below s.1 s.2
 sends_nowhere d lines below sdu (Err (send.NumbersSpent until)) d' s = seen_calm d d' lines below s.1 s.2
 
-sends_calm : (o : Option ℕ) (d : Dif) (lines : List Direction) (below : Seen) (sdu : List ℕ) (result : Result Num SendError) (d' : Dif) → SendsAt o d lines below sdu result d' → IsCalm d d' below
+pub sends_calm : (o : Option ℕ) (d : Dif) (lines : List Direction) (below : Seen) (sdu : List ℕ) (result : Result Num SendError) (d' : Dif) → SendsAt o d lines below sdu result d' → IsCalm d d' below
 sends_calm (Some at) d lines below sdu result d' s = record { conns = offers_conns (seen_of d) lines at s.parts result (seen_of d') s.lines' s.offers; lines' = s.lines'; holds = s.holds }
 sends_calm None d lines below sdu result d' s = sends_nowhere d lines below sdu result d' s
 
@@ -175,7 +174,7 @@ ends_conns (Refused why) d lines at end d' f = ap (λ (z : DifSeen). z.conns) f
 ends_conns (Failed fail) d lines at end d' f = ap (λ (z : DifSeen). z.conns) f
 ends_conns Closed d lines at end d' f = ap (λ (z : DifSeen). z.conns) f
 
-frees_calm : (o : Option ℕ) (d : Dif) (lines : List Direction) (below : Seen) (result : Result (Unit {0}) FreeError) (d' : Dif) → FreesAt o d lines below result d' → IsCalm d d' below
+pub frees_calm : (o : Option ℕ) (d : Dif) (lines : List Direction) (below : Seen) (result : Result (Unit {0}) FreeError) (d' : Dif) → FreesAt o d lines below result d' → IsCalm d d' below
 frees_calm (Some at) d lines below (Ok done) d' f = record { conns = ends_conns f.end.state (seen_of d) lines at f.end (seen_of d') f.frees; lines' = lines; holds = f.holds }
 frees_calm None d lines below (Ok done) d' f = absurd f
 frees_calm (Some at) d lines below (Err free.Memory) d' f = seen_calm d d' lines below f.same f.holds
@@ -215,7 +214,7 @@ free_keeps P lasts d d' port result is does manages goes whole notes = stays P d
 
 entry_adds : (d : Dif) (node : ℕ) (app : List ℕ) (value : Management → Option (List ℕ)) (new : List Management) → MakesEntryAt d node app value new → Adds IsOther d.managements new
 entry_adds d node app value new e =
-    let near : AddsNear e.management.agent.agenda e.after.agent.agenda = subst (λ (g : Agent). AddsNear e.management.agent.agenda g.agenda) (sym e.makes.makes) (made_adds None e.management.agent d.clock (key_of app) (value e.management)) in
+    let near : AddsNear e.management.agent e.after.agent = subst (AddsNear e.management.agent) (sym e.makes.makes) (made_adds None e.management.agent d.clock (key_of app) (value e.management)) in
     subst (Adds IsOther d.managements) (sym e.are) (near_set d.managements e.i e.management e.after e.is_management near)
 
 registers_adds : (result : Result (Unit {0}) RegisterError) (d : Dif) (node : ℕ) (app : List ℕ) (new : List Management) → RegistersManaged result d node app new → Adds IsOther d.managements new

@@ -20,7 +20,6 @@ use Rattle.rina_iface.specs.declared.state.Fail.TheVariants.{Below}
 use Rattle.rina_iface.specs.Seen.{Seen}
 use Rattle.rina_law.specs.Direction.{Direction}
 use Rattle.rina_member.specs.declared.management.Management.{Management}
-use Rattle.rina_agent.specs.declared.agent.Agent.{Agent}
 use Rattle.rina_member.specs.Managements.{IsSduOf, claimed, with_agent, with_sent, without_flows}
 use Rattle.rina_member.proofs.Lists.{found}
 use Rattle.rina_dif.specs.declared.dif.Dif.{Dif}
@@ -38,9 +37,10 @@ use Rattle.rina_dif.specs.Unlinking.{FailsWith, links_without, with_lost}
 use Rattle.rina_dif.proofs.Flooding.{SameTexts, set_said}
 use Rattle.rina_asked.specs.Calls.{ClockKeeps}
 use Rattle.rina_asked.specs.Messages.{IsOnLink, IsOnWay}
-use Rattle.rina_asked.proofs.Agendas.{AddsNear, adds_none, lost_adds, sent_adds}
+use Rattle.rina_asked.proofs.Agendas.{AddsNear, adds_same, lost_adds, sent_adds}
 use Rattle.rina_asked.proofs.Askers.{askers_go_on, names_same}
 use Rattle.rina_asked.proofs.Calls.{gives_up_adds}
+use Rattle.rina_asked.proofs.Drawn.{ids_kept}
 use Rattle.rina_asked.proofs.Fewer.{FewerOnWay, fewer_both}
 use Rattle.rina_asked.proofs.Keeps.{stays}
 use Rattle.rina_asked.proofs.Offered.{offered_fewer}
@@ -50,7 +50,7 @@ use Rattle.rina_asked.proofs.Waiting.{Adds, IsOther, near_changed, near_set, sam
 
 -- The flows
 
-abbrev SameConns : DifSeen → DifSeen → Type 0
+abbrev pub SameConns : DifSeen → DifSeen → Type 0
 SameConns d d' = d'.conns ≡ d.conns
 
 conns_by : (d z : DifSeen) → z ≡ d → z.conns ≡ d.conns
@@ -107,7 +107,7 @@ steps_conns d lines below node (step.Message link) d' lines' below' s = serves_c
 lost_managed : (d : Dif) (below : Seen) (at node number : ℕ) (new : List Management) → LosesManaged d below at node number new → Adds IsOther d.managements new
 lost_managed d below at node number new l =
     let ceps = ended_with l.last node d.flows in
-    let near = subst (λ (g : Agent). AddsNear l.management.agent.agenda g.agenda) (sym (without_agent l.after ceps)) (lost_adds l.management.agent l.after.agent d.clock number l.loses.loses) in
+    let near = subst (AddsNear l.management.agent) (sym (without_agent l.after ceps)) (lost_adds l.management.agent l.after.agent d.clock number l.loses.loses) in
     subst (Adds IsOther d.managements) (sym l.are) (near_set d.managements at l.management (without_flows l.after ceps) l.is_management near)
 
 gave_up : (d : Dif) (below : Seen) (at node : ℕ) (new : List Management) (num : _) → ManagesStep (Ok (step.GaveUp num)) (Some at) d below node new → Adds IsOther d.managements new
@@ -116,9 +116,9 @@ gave_up d below at node new num (inr same) = same_added IsOther d.managements ne
 
 step_adds : (result : Result ClockStep StepError) (o : Option ℕ) (d : Dif) (below : Seen) (node : ℕ) (new : List Management) → (result ≡ Err errors.Memory → ⊥) → ManagesStep result o d below node new → Adds IsOther d.managements new
 step_adds (Ok (step.LinkLost number)) (Some at) d below node new some m = lost_managed d below at node number new m
-step_adds (Ok (step.LinkNew number)) (Some at) d below node new some m = subst (Adds IsOther d.managements) (sym m) (near_changed at (λ x. with_agent x (claimed x.agent number)) d.managements (λ x. adds_none x.agent.agenda))
+step_adds (Ok (step.LinkNew number)) (Some at) d below node new some m = subst (Adds IsOther d.managements) (sym m) (near_changed at (λ x. with_agent x (claimed x.agent number)) d.managements (λ x. adds_same x.agent (claimed x.agent number) refl (ids_kept x.agent (claimed x.agent number) refl refl)))
 step_adds (Ok (step.GaveUp num)) (Some at) d below node new some m = gave_up d below at node new num m
-step_adds (Ok (step.Message number)) (Some at) d below node new some m = subst (Adds IsOther d.managements) (sym m) (near_changed at (λ x. with_sent x number) d.managements (λ x. sent_adds number x.agent.agenda))
+step_adds (Ok (step.Message number)) (Some at) d below node new some m = subst (Adds IsOther d.managements) (sym m) (near_changed at (λ x. with_sent x number) d.managements (λ x. sent_adds number x.agent))
 step_adds (Ok step.Idle) (Some at) d below node new some m = same_added IsOther d.managements new m
 step_adds (Ok (step.Gone cep)) (Some at) d below node new some m = same_added IsOther d.managements new m
 step_adds (Ok (step.Ack cep)) (Some at) d below node new some m = same_added IsOther d.managements new m
@@ -145,7 +145,7 @@ step_adds (Err errors.NoLink) None d below node new some m = same_added IsOther 
 -- What is on the links
 
 -- a message is offered
-record OffersOne (d d' : Dif) : Type 0 where
+pub record OffersOne (d d' : Dif) : Type 0 where
   below : Seen
   links : List Direction
   i : ℕ
@@ -154,7 +154,7 @@ record OffersOne (d d' : Dif) : Type 0 where
   offers : OffersDue d below links i place number d'
 
 -- it is that of one message more, which waits no more, or there is no more of it
-abbrev OnWay : Dif → Dif → Type 0
+abbrev pub OnWay : Dif → Dif → Type 0
 OnWay d d' = NoMoreOnLinks d d' ⊎ OffersOne d d'
 
 by_links : (d d' : Dif) → NoMoreOnLinks d d' → OnWay d d'
@@ -231,14 +231,14 @@ no_err : (done : ClockStep) (e : StepError) → Ok done ≡ Err e → ⊥
 no_err done e same = absurd cc
 
 -- where nothing is done
-record IsDone (d d' : Dif) : Type 0 where
-  conns : SameConns (seen_of d) (seen_of d')
-  way : OnWay d d'
+pub record IsDone (d d' : Dif) : Type 0 where
+  pub conns : SameConns (seen_of d) (seen_of d')
+  pub way : OnWay d d'
 
 idle_done : (d d' : Dif) → seen_of d' ≡ seen_of d → d'.connections ≡ d.connections → IsDone d d'
 idle_done d d' seen connections = record { conns = conns_by (seen_of d) (seen_of d') seen; way = by_links d d' (links_same d d' connections) }
 
-answer_done : (d : Dif) (lines : List Direction) (below : Seen) (node : ℕ) (result : Result ClockStep StepError) (d' : Dif) (lines' : List Direction) (below' : Seen) → Holds d lines below → (result ≡ Err errors.Memory → ⊥) → OnErr result (d'.connections ≡ d.connections) → ClockStepsAt d lines below node result d' lines' below' → IsDone d d'
+pub answer_done : (d : Dif) (lines : List Direction) (below : Seen) (node : ℕ) (result : Result ClockStep StepError) (d' : Dif) (lines' : List Direction) (below' : Seen) → Holds d lines below → (result ≡ Err errors.Memory → ⊥) → OnErr result (d'.connections ≡ d.connections) → ClockStepsAt d lines below node result d' lines' below' → IsDone d d'
 answer_done d lines below node (Ok done) d' lines' below' h some stays s = elim (either (home node (config_of d.settings).members) (Steps d lines below node done d' lines' below') (Nowhere d lines below (Ok done) d' lines' below') s) [
   | inl one ↦ record { conns = steps_conns d lines below node done d' lines' below' one; way = steps_way d lines below node done d' lines' below' h one }
   | inr none ↦ absurd (no_err done errors.NoIpc none.0)
@@ -247,6 +247,10 @@ answer_done d lines below node (Err errors.Memory) d' lines' below' h some stays
 answer_done d lines below node (Err (errors.CountSpent need left)) d' lines' below' h some stays s = idle_done d d' s.1 stays
 answer_done d lines below node (Err errors.NoIpc) d' lines' below' h some stays s = ⊎_elim (λ none. absurd none) (λ same. idle_done d d' same.1 stays) (either (home node (config_of d.settings).members) ⊥ (Nowhere d lines below (Err errors.NoIpc) d' lines' below') s)
 answer_done d lines below node (Err errors.NoLink) d' lines' below' h some stays s = ⊎_elim (λ none. absurd none) (λ same. idle_done d d' same.1 stays) (either (home node (config_of d.settings).members) ⊥ (Nowhere d lines below (Err errors.NoLink) d' lines' below') s)
+
+-- so what is on a link then was on its way before
+pub clock_way : (d : Dif) (lines : List Direction) (below : Seen) (node : ℕ) (result : Result ClockStep StepError) (d' : Dif) (lines' : List Direction) (below' : Seen) → Holds d lines below → (result ≡ Err errors.Memory → ⊥) → OnErr result (d'.connections ≡ d.connections) → ClockStepsAt d lines below node result d' lines' below' → (text : List ℕ) → IsOnLink d' text → IsOnWay d text
+clock_way d lines below node result d' lines' below' h some stays s = on_way d d' (answer_done d lines below node result d' lines' below' h some stays s).way
 
 pub clock_keeps : (P : Dif → Type 0) → Lasts P → ClockKeeps P
 clock_keeps P lasts d d' below below' node result st does ok goes notes = stays P d d' result (Err errors.Memory) notes (λ some.

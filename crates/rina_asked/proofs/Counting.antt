@@ -83,6 +83,19 @@ module _ {X : Type 0} (F : X → ℕ) where
       let now = sum_by-cons F y ys in
       omega (arith, same, rest, whole, now)
 
+-- and where each is at least as heavy there, be there more behind them
+pub sum_rises : {X : Type 0} (F : X → ℕ) (old new : List X) → ((i : ℕ) (x : X) → slice_get old i ≡ Some x → (y : X) × (slice_get new i ≡ Some y) × (F x ≤ F y)) → sum_by F old ≤ sum_by F new
+sum_rises F [] new stands = omega arith
+sum_rises F (x ∷ xs) [] stands = absurd (let s = stands zero x refl in none-some s.0 s.1)
+sum_rises F (x ∷ xs) (y ∷ ys) stands =
+    let s = stands zero x refl in
+    let same : F y ≡ F s.0 = ap F (same_Some y s.0 s.1) in
+    let more = s.2 in
+    let rest = sum_rises F xs ys (λ i z is. stands (suc i) z is) in
+    let whole = sum_by-cons F x xs in
+    let now = sum_by-cons F y ys in
+    omega (arith, same, more, rest, whole, now)
+
 -- through a map
 pub sum_map : {X Y : Type 0} (F : Y → ℕ) (f : X → Y) (xs : List X) → sum_by (λ (x : X). F (f x)) xs ≡ sum_by F (map f xs)
 sum_map F f [] = refl

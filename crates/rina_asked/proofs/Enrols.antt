@@ -16,11 +16,11 @@ use Rattle.rina_asked.specs.Calls.{EnrolKeeps}
 use Rattle.rina_asked.proofs.Agendas.{joining_adds}
 use Rattle.rina_asked.proofs.Askers.{askers_same}
 use Rattle.rina_asked.proofs.Keeps.{alive}
-use Rattle.rina_asked.proofs.Quiet.{IsQuiet, Lasts, ends_flows, quiet_by}
+use Rattle.rina_asked.proofs.Quiet.{IsQuiet, Lasts, LastsSame, ends_flows, lasts_same, quiet_by}
 use Rattle.rina_asked.proofs.Links.{made_said, said_links}
 use Rattle.rina_asked.proofs.Waiting.{Adds, IsOther, near_set}
 
-enrols_quiet : (d : Dif) (node peer : ℕ) (port : Port) (d' : Dif) → EnrolsHere d node peer port d' → IsQuiet d d'
+pub enrols_quiet : (d : Dif) (node peer : ℕ) (port : Port) (d' : Dif) → EnrolsHere d node peer port d' → IsQuiet d d'
 enrols_quiet d node peer port d' e =
     let c = e.connects in
     let j = e.joins in
@@ -29,10 +29,10 @@ enrols_quiet d node peer port d' e =
     (ap (λ (x : End). offered_at (Some x)) c.asker_is) (ap (λ (x : End). offered_at (Some x)) c.end_is) (ap (λ (x : End). handled_at (Some x)) c.asker_is) (ap (λ (x : End). handled_at (Some x)) c.end_is) in
     quiet_by d d' (askers_same d d' (ap (λ (z : Dif). z.flows) e.only)) (ends_flows d d' (ap (λ (z : Dif). z.flows) e.only)) adds (said_links d d' said)
 
-same_kept : (P : Dif → Type 0) (d d' : Dif) → d' ≡ d → P d → P d'
+pub same_kept : (P : Dif → Type 0) (d d' : Dif) → d' ≡ d → P d → P d'
 same_kept P d d' same kept = subst P (sym same) kept
 
-lower_kept : (P : Dif → Type 0) (e : AllocateError) (own : Ask → Option AllocateError) (d : Dif) (below : Seen) (node fac peer : ℕ) (d' : Dif) (below' : Seen) → EnrolsAs own d below node fac peer (Err (enrol.Lower e)) d' below' → P d → P d'
+pub lower_kept : (P : Dif → Type 0) (e : AllocateError) (own : Ask → Option AllocateError) (d : Dif) (below : Seen) (node fac peer : ℕ) (d' : Dif) (below' : Seen) → EnrolsAs own d below node fac peer (Err (enrol.Lower e)) d' below' → P d → P d'
 lower_kept P allocate.Memory own d below node fac peer d' below' s = absurd s
 lower_kept P allocate.NoMember own d below node fac peer d' below' s = same_kept P d d' s.same
 lower_kept P allocate.NoCube own d below node fac peer d' below' s = same_kept P d d' s.same
@@ -43,8 +43,8 @@ lower_kept P (allocate.NoRoute dst) own d below node fac peer d' below' s = same
 lower_kept P (allocate.Busy port) own d below node fac peer d' below' s = same_kept P d d' s.same
 lower_kept P (allocate.CountSpent need left) own d below node fac peer d' below' s = same_kept P d d' s.same
 
-by_enrol : (P : Dif → Type 0) → Lasts P → (result : Result (Unit {0}) EnrolError) (own : Ask → Option AllocateError) (d : Dif) (below : Seen) (node fac peer : ℕ) (d' : Dif) (below' : Seen) → (result ≡ Err enrol.Memory → ⊥) → EnrolsAs own d below node fac peer result d' below' → P d → P d'
-by_enrol P lasts (Ok done) own d below node fac peer d' below' some s = lasts d d' (enrols_quiet d node peer s.port d' s.does)
+by_enrol : (P : Dif → Type 0) → LastsSame P → (result : Result (Unit {0}) EnrolError) (own : Ask → Option AllocateError) (d : Dif) (below : Seen) (node fac peer : ℕ) (d' : Dif) (below' : Seen) → (result ≡ Err enrol.Memory → ⊥) → EnrolsAs own d below node fac peer result d' below' → P d → P d'
+by_enrol P lasts (Ok done) own d below node fac peer d' below' some s = lasts d d' (enrols_quiet d node peer s.port d' s.does) (ap (λ (z : Dif). z.asks) s.does.only)
 by_enrol P lasts (Err enrol.Memory) own d below node fac peer d' below' some s = absurd (some refl)
 by_enrol P lasts (Err enrol.NoIpc) own d below node fac peer d' below' some s = same_kept P d d' s.1
 by_enrol P lasts (Err (enrol.Enrolling link)) own d below node fac peer d' below' some s = same_kept P d d' s.1
@@ -52,7 +52,10 @@ by_enrol P lasts (Err (enrol.LinksFull most)) own d below node fac peer d' below
 by_enrol P lasts (Err (enrol.CountSpent need left)) own d below node fac peer d' below' some s = same_kept P d d' s.1
 by_enrol P lasts (Err (enrol.Lower e)) own d below node fac peer d' below' some s = lower_kept P e own d below node fac peer d' below' s
 
-pub enrol_keeps : (P : Dif → Type 0) → Lasts P → EnrolKeeps P
-enrol_keeps P lasts d d' below below' own node fac peer result does notes h still =
+pub enrol_keeps_same : (P : Dif → Type 0) → LastsSame P → EnrolKeeps P
+enrol_keeps_same P lasts d d' below below' own node fac peer result does notes h still =
     let a = alive d d' result (Err enrol.Memory) notes still in
     by_enrol P lasts result own d below node fac peer d' below' a.1 (does a.0) (h a.0)
+
+pub enrol_keeps : (P : Dif → Type 0) → Lasts P → EnrolKeeps P
+enrol_keeps P lasts = enrol_keeps_same P (lasts_same P lasts)

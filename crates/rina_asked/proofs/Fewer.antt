@@ -2,7 +2,9 @@
 use Rattle.std.proofs.Common.{◌≡◌, ◌∙◌, ℕ, ◌+◌, ◌≤◌, List, [], ◌∷◌, ◌++◌, length, sum_by, sym, ap, arith}
 use Rattle.std.proofs.lemmas.List.Sums.{sum_by-cons}
 use Rattle.rina_base.specs.declared.number.FlowName.{FlowName}
+use Rattle.rina_alloc.specs.declared.message.FlowMessage.{FlowMessage}
 use Rattle.rina_agent.specs.declared.message.ManagementMessage.{ManagementMessage}
+use Rattle.rina_agent.specs.declared.message.ManagementMessage.TheVariants.{ToMember}
 use Rattle.rina_iface.specs.declared.ends.End.{End}
 use Rattle.rina_iface.specs.declared.state.Role.{Role}
 use Rattle.rina_iface.specs.declared.state.Role.TheVariants.{Asker, Far}
@@ -24,6 +26,15 @@ FewerOnWay d d' = (F : ManagementMessage → ℕ) (G : List ℕ → ℕ) → ((x
 
 pub fewer_both : (d d' : Dif) → Adds IsOther d.managements d'.managements → NoMoreOnLinks d d' → FewerOnWay d d'
 fewer_both d d' adds more F G other same links = (let a = adds.fewer F other in let l = more.fewer G links in omega (arith, a, l))
+
+-- so it is with messages about flows that are in hand, wherever they were on the links before
+abbrev pub FewerWith : Dif → Dif → List FlowMessage → Type 0
+FewerWith d d' ms = (F : ManagementMessage → ℕ) (G : List ℕ → ℕ) → ((x : ManagementMessage) → IsOther x → F x ≡ 0) → ((x : ManagementMessage) (text : List ℕ) → IsSduOf x text → G text ≡ F x)
+    → (links : ℕ) → (before : ℕ) × (all_waiting F d'.managements + all_on_links G d' links + sum_by (λ (m : FlowMessage). F (ToMember m)) ms ≤ all_waiting F d.managements + all_on_links G d before)
+
+-- none is in hand
+pub fewer_none : (d d' : Dif) → FewerOnWay d d' → FewerWith d d' []
+fewer_none d d' fewer F G other same links = (links, (let way = fewer F G other same links in omega (arith, way)))
 
 -- Ends
 

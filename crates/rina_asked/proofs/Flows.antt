@@ -27,6 +27,7 @@ use Rattle.rina_flows.specs.Tied.{conns_of, ids_of}
 use Rattle.rina_flows.proofs.Framed.{ids_at}
 use Rattle.rina_iface.proofs.Grown.{last_at}
 use Rattle.rina_dif.proofs.Bare.{map_at}
+use Rattle.rina_iface.specs.declared.ends.End.{End}
 use Rattle.rina_iface.specs.Seen.{Seen}
 use Rattle.rina_iface.specs.declared.state.Why.{Why}
 use Rattle.rina_law.specs.Direction.{Direction}
@@ -39,6 +40,7 @@ use Rattle.rina_dif.specs.Changing.{with_flow_at}
 use Rattle.rina_dif.specs.DeletesIn.{ClosesUp, TakesDelete}
 use Rattle.rina_dif.specs.Holding.{Holds}
 use Rattle.rina_dif.specs.FarMaking.{Accepts, AnswersBy, HandlesAsk}
+use Rattle.rina_dif.specs.FlowAnswers.{IsFarEndAt}
 use Rattle.rina_dif.specs.FlowMessages.{HandlesFlow, HandlesFlows, HandlesWord, MayChangeFlow}
 use Rattle.rina_dif.specs.Posting.{message_of, posts}
 use Rattle.rina_dif.specs.Shown.{seen_of}
@@ -52,7 +54,7 @@ use Rattle.rina_asked.proofs.Weights.{no_word, other_weighs}
 use Rattle.rina_asked.proofs.Keeps.{asked_by, text_on}
 use Rattle.rina_asked.proofs.Links.{links_same}
 use Rattle.rina_asked.proofs.Texts.{IsAskedFlow, IsAskedText, other_asked, refusal_asked, yes_asked}
-use Rattle.rina_asked.proofs.Waiting.{Adds, HasWaiting, IsOther, added_on, hides_flow, posted_adds, same_added, shows_flow}
+use Rattle.rina_asked.proofs.Waiting.{Adds, HasWaiting, IsOther, added_on, hides_flow, posted_adds, same_added, shows_flow, widened}
 
 -- The flows
 
@@ -83,7 +85,7 @@ told_weighs f d x (inl other) = other_weighs f x other
 told_weighs f d x (inr t) = ap (λ (z : ManagementMessage). one (asks f z)) t.is ∙ no_word f t.message.word (λ ask. five_four (sym t.answers ∙ ask))
 
 wide : (d : Dif) (old new : List Management) → Adds IsOther old new → Adds (IsTold d) old new
-wide d old new adds = record { more = λ w has. ⊎_elim (λ was. inl was) (λ is. inr (inl is)) (adds.more w has); fewer = λ F none. adds.fewer F (λ x is. none x (inl is)) }
+wide d old new adds = widened IsOther (IsTold d) old new (λ x other. inl other) adds
 
 -- an answer is posted
 tells_adds : (d d' : Dif) (i to from invoke : ℕ) (answer : FlowAnswer) (ms : List Management) → IsAskedFlow d' (record { to = to; from = from; word = words.Answer invoke answer }) → Adds (IsTold d') ms (posts d i (message_of to from (words.Answer invoke answer)) ms)
@@ -95,7 +97,7 @@ refuses_adds d d' i to from invoke answer refuses only = subst (Adds (IsTold d')
 
 -- the far end of a yes
 module _ (d : Dif) (lines : List Direction) (below : Seen) (h : Holds d lines below) (at own node from invoke : ℕ) (ask : FlowAsk) (d' : Dif) (s : Accepts d lines below at own node from invoke ask d') where
-  abbrev its_place : ℕ
+  abbrev pub its_place : ℕ
   its_place = length d.flows.journal.ends
 
   ids_is : s.makes.ids ≡ ids_of s.asker.conn
@@ -128,24 +130,39 @@ module _ (d : Dif) (lines : List Direction) (below : Seen) (h : Holds d lines be
     leads = record { asker = ap (λ (z : Ids). z.own) its_conn.2 ∙ own_is; asked = ap (λ (z : Ids). z.far) its_conn.2 ∙ far_is; its_cep = ap (λ (z : Ids). z.scep) its_conn.2 };
   }
 
+  -- it is that of the flow of the ask
+  pub far_end_at : IsFarEndAt d' its_place ask.flow own s.makes.cep
+  far_end_at = record {
+    end = far_end_of (seen_of d) node s.makes.asker;
+    conn = its_conn.0;
+    is_at = record { end_is = far_there; conn_is = its_conn.1 };
+    is_far = refl;
+    same = ap (λ (e : End). e.flow) (same_Some s.makes.asker s.asker.end (sym s.makes.is_conn.end ∙ s.asker.is_at.end_is)) ∙ s.asker.asks.flow;
+    own_is = ap (λ (z : Ids). z.own) its_conn.2 ∙ own_is;
+    cep_is = ap (λ (z : Ids). z.scep) its_conn.2;
+  }
+
   fit : AreIds (seen_of d').config (far_end_of (seen_of d) node s.makes.asker) its_ids
   fit = s.holds.standing.own.ids its_place (far_end_of (seen_of d) node s.makes.asker) its_ids (record { end = far_there; ids_are = ids_there })
+
+  pub cep_fits : s.makes.cep < 4294967296
+  cep_fits = fits_four d'.settings.widths.cep its_ids.scep s.holds.standing.config.widths.cep fit.scep
 
   yes_told : IsAskedFlow d' (record { to = from; from = own; word = words.Answer invoke (answers.Yes s.makes.cep ask.scep) })
   yes_told = yes_asked d' its_place from own invoke s.makes.cep ask.scep
       (subst (λ (x : ℕ). x < 4294967296) far_is (fits_four d'.settings.widths.addr its_ids.far s.holds.standing.config.widths.addr fit.far))
       (subst (λ (x : ℕ). x < 4294967296) own_is (fits_four d'.settings.widths.addr its_ids.own s.holds.standing.config.widths.addr fit.own))
-      (fits_four d'.settings.widths.cep its_ids.scep s.holds.standing.config.widths.cep fit.scep) far_end
+      cep_fits far_end
 
   accepts_adds : Adds (IsTold d') d.managements d'.managements
   accepts_adds =
       let shown : List Management = with_flow_at at s.makes.cep d.managements in
       subst (Adds (IsTold d') d.managements) (sym s.managed) (added_on (IsTold d') d.managements shown (posts d at (message_of from own (words.Answer invoke (answers.Yes s.makes.cep ask.scep))) shown) (wide d' d.managements shown (shows_flow at s.makes.cep d.managements)) (tells_adds d d' at from own invoke (answers.Yes s.makes.cep ask.scep) shown yes_told))
 
-no_code : (k : ℕ) → suc k ≡ 0 → ⊥
+pub no_code : (k : ℕ) → suc k ≡ 0 → ⊥
 no_code k e = omega (arith, e)
 
-answered_adds : (a : FlowAnswer) (d : Dif) (lines : List Direction) (below : Seen) → Holds d lines below → (at own node from invoke : ℕ) (ask : FlowAsk) (d' : Dif) → AnswersBy a d lines below at own node from invoke ask d' → Adds (IsTold d') d.managements d'.managements
+pub answered_adds : (a : FlowAnswer) (d : Dif) (lines : List Direction) (below : Seen) → Holds d lines below → (at own node from invoke : ℕ) (ask : FlowAsk) (d' : Dif) → AnswersBy a d lines below at own node from invoke ask d' → Adds (IsTold d') d.managements d'.managements
 answered_adds (answers.Yes cep scep) d lines below h at own node from invoke ask d' (inl s) = accepts_adds d lines below h at own node from invoke ask d' s
 answered_adds (answers.Yes cep scep) d lines below h at own node from invoke ask d' (inr s) = refuses_adds d d' at from own invoke answers.NotHere (no_code 1) s.1.only
 answered_adds (answers.Denied rule) d lines below h at own node from invoke ask d' s = refuses_adds d d' at from own invoke (answers.Denied rule) (no_code 0) s.only
@@ -167,11 +184,11 @@ back_adds (answers.Denied rule) d at from m d' is s = same_added IsOther d.manag
 back_adds answers.NotHere d at from m d' is s = same_added IsOther d.managements d'.managements (ap (λ (z : Dif). z.managements) s)
 back_adds (answers.NoIds used) d at from m d' is s = same_added IsOther d.managements d'.managements (ap (λ (z : Dif). z.managements) s)
 
-answer_adds : (d : Dif) (lines : List Direction) (below : Seen) (at from invoke : ℕ) (answer : FlowAnswer) (m : Member) (d' : Dif) → slice_get d.settings.members at ≡ Some m → TakesAnswer d lines below at from invoke answer (Ok tt) d' → Adds IsOther d.managements d'.managements
+pub answer_adds : (d : Dif) (lines : List Direction) (below : Seen) (at from invoke : ℕ) (answer : FlowAnswer) (m : Member) (d' : Dif) → slice_get d.settings.members at ≡ Some m → TakesAnswer d lines below at from invoke answer (Ok tt) d' → Adds IsOther d.managements d'.managements
 answer_adds d lines below at from invoke answer m d' is (inl t) = taken_adds (why_of answer) d lines below at from (dcep_of answer) t.which t.first.is_ask.ask.place d' t.takes
 answer_adds d lines below at from invoke answer m d' is (inr t) = back_adds answer d at from m d' is t.1.ok
 
-delete_adds : (d : Dif) (lines : List Direction) (below : Seen) (at from dcep scep : ℕ) (m : Member) (d' : Dif) → slice_get d.settings.members at ≡ Some m → TakesDelete d lines below at from dcep scep (Ok tt) d' → Adds IsOther d.managements d'.managements
+pub delete_adds : (d : Dif) (lines : List Direction) (below : Seen) (at from dcep scep : ℕ) (m : Member) (d' : Dif) → slice_get d.settings.members at ≡ Some m → TakesDelete d lines below at from dcep scep (Ok tt) d' → Adds IsOther d.managements d'.managements
 delete_adds d lines below at from dcep scep m d' is t = ⊎_elim (λ c. closes c) (λ same. same_added IsOther d.managements d'.managements (ap (λ (z : Dif). z.managements) same.1)) (t m is)
   where
     closes : ClosesUp d lines below m.addr from dcep scep (Ok tt) d' → Adds IsOther d.managements d'.managements
@@ -197,9 +214,9 @@ abbrev IsNew : FlowMessage → Dif → ManagementMessage → Type 0
 IsNew message d x = IsTold d x ⊎ (x ≡ ToMember message)
 
 weaker : (message : FlowMessage) (d : Dif) (ms ms' : List Management) → Adds (IsTold d) ms ms' → Adds (IsNew message d) ms ms'
-weaker message d ms ms' adds = record { more = λ w has. ⊎_elim (λ old. inl old) (λ new. inr (inl new)) (adds.more w has); fewer = λ F none. adds.fewer F (λ x new. none x (inl new)) }
+weaker message d ms ms' adds = widened (IsTold d) (IsNew message d) ms ms' (λ x told. inl told) adds
 
-flow_adds : (d : Dif) (lines : List Direction) (below : Seen) → Holds d lines below → (i : ℕ) (message : FlowMessage) (d' : Dif) (lines' : List Direction) → i < length d.settings.members → HandlesFlow d lines below i message (Ok tt) d' lines' → Adds (IsNew message d') d.managements d'.managements
+pub flow_adds : (d : Dif) (lines : List Direction) (below : Seen) → Holds d lines below → (i : ℕ) (message : FlowMessage) (d' : Dif) (lines' : List Direction) → i < length d.settings.members → HandlesFlow d lines below i message (Ok tt) d' lines' → Adds (IsNew message d') d.managements d'.managements
 flow_adds d lines below h i message d' lines' lt f =
     let m = there d.settings.members i lt in
     ⊎_elim
@@ -219,13 +236,19 @@ flow_asked d lines below h i message d' lines' lt asked f =
 
 -- Several
 
+abbrev pub AllOf : (FlowMessage → Type 0) → List FlowMessage → Type 0
+AllOf T [] = Unit {0}
+AllOf T (m ∷ ms) = T m × AllOf T ms
+
+pub all_so : (S T : FlowMessage → Type 0) → ((m : FlowMessage) → S m → T m) → (ms : List FlowMessage) → AllOf S ms → AllOf T ms
+all_so S T so [] all = tt
+all_so S T so (m ∷ ms) all = (so m all.0, all_so S T so ms all.1)
+
 abbrev pub AllAsked : Dif → List FlowMessage → Type 0
-AllAsked d [] = Unit {0}
-AllAsked d (m ∷ ms) = IsAskedFlow d m × AllAsked d ms
+AllAsked d ms = AllOf (IsAskedFlow d) ms
 
 pub all_on : (d d' : Dif) (ms : List FlowMessage) → KeepAskers d d' → AllAsked d ms → AllAsked d' ms
-all_on d d' [] keeps all = tt
-all_on d d' (m ∷ ms) keeps all = (flow_on d d' m keeps all.0, all_on d d' ms keeps all.1)
+all_on d d' ms keeps all = all_so (IsAskedFlow d) (IsAskedFlow d') (λ m asked. flow_on d d' m keeps asked) ms all
 
 pub flows_asked : (d : Dif) (lines : List Direction) (below : Seen) → Holds d lines below → (i : ℕ) (ms : List FlowMessage) (d' : Dif) (lines' : List Direction) → i < length d.settings.members → AllAsked d ms → HandlesFlows d lines below i ms (Ok tt) d' lines' → HaveEnds d → HaveEnds d'
 flows_asked d lines below holds i [] d' lines' lt all h asked = subst HaveEnds (sym h.1) asked

@@ -17,6 +17,7 @@ use Rattle.rina_iface.specs.declared.state.Role.TheVariants as roles
 use Rattle.rina_iface.specs.Journal.{At}
 use Rattle.rina_iface.specs.Seen.{Seen}
 use Rattle.rina_law.specs.Direction.{Direction}
+use Rattle.rina_member.specs.Managements.{IsSduOf}
 use Rattle.rina_dif.specs.declared.dif.Dif.{Dif}
 use Rattle.rina_dif.specs.FarMaking.{HasFar}
 use Rattle.rina_dif.specs.Holding.{Holds}
@@ -74,21 +75,9 @@ waits_counts F d text w =
     let all = sum_at (one_waiting F) d.managements w.place w.management w.is_management in
     omega (arith, here, all)
 
-way_counts : (f : FlowName) (d : Dif) (text : List ℕ) → text_asks f text ≡ true → IsOnWay d text → (links : ℕ) × (1 ≤ all_waiting (λ x. one (asks f x)) d.managements + all_on_links (λ t. one (text_asks f t)) d links)
-way_counts f d text is (inl w) = (
-  zero,
-  (let counts = waits_counts (λ x. one (asks f x)) d text w in
-      let weighs = text_weighs f w.waiting.message text w.written in
-      let here : one (text_asks f text) ≡ 1 = ap one is in
-      omega (arith, counts, weighs, here)),
-)
-way_counts f d text is (inr l) = (
-  suc l.link,
-  (let counts = sum_has (λ t. one (text_asks f t)) (on_link d l.link l.side) text l.among in
-      let all = link_has (λ t. one (text_asks f t)) d l.link l.side in
-      let here : one (text_asks f text) ≡ 1 = ap one is in
-      omega (arith, counts, all, here)),
-)
+pub way_counts : (F : ManagementMessage → ℕ) (G : List ℕ → ℕ) → ((x : ManagementMessage) (text : List ℕ) → IsSduOf x text → G text ≡ F x) → (d : Dif) (text : List ℕ) → IsOnWay d text → (links : ℕ) × (G text ≤ all_waiting F d.managements + all_on_links G d links)
+way_counts F G same d text (inl w) = (zero, (let counts = waits_counts F d text w in let weighs = same w.waiting.message text w.written in omega (arith, counts, weighs)))
+way_counts F G same d text (inr l) = (suc l.link, (let counts = sum_has G (on_link d l.link l.side) text l.among in let all = link_has G d l.link l.side in omega (arith, counts, all)))
 
 pub far_counts : (f : FlowName) (ends : List End) → HasFar ends f → 1 ≤ far_ends f ends
 far_counts f ends far =
@@ -102,14 +91,15 @@ no_far : (d : Dif) (lines : List Direction) (below : Seen) (m : FlowMessage) (in
 no_far d lines below m invoke ask h alone is word far =
     let f : FlowName = ask.flow in
     let asks_it : text_asks f is.text ≡ true = flow_text f m is.text is.is.spelled ∙ ap (word_asks f) word ∙ same_bytes f in
-    let way = way_counts f d is.text asks_it is.on_way in
+    let way = way_counts (λ x. one (asks f x)) (λ t. one (text_asks f t)) (text_weighs f) d is.text is.on_way in
     let counts = way.1 in
+    let here : one (text_asks f is.text) ≡ 1 = ap one asks_it in
     let range = subst (λ (w : FlowWord). IsInRange (record { to = m.to; from = m.from; word = w })) word is.is.in_range in
     let name : IsName f = record { src = range.word.1.src; tick = range.word.1.tick; count = range.word.1.count } in
     let before = alone f way.0 name in
     let asker = one_asker f d.flows.journal.ends h.standing.journal.distinct in
     let fars = far_counts f d.flows.journal.ends far in
-    omega (arith, counts, before, asker, fars)
+    omega (arith, counts, here, before, asker, fars)
 
 pub asks_find : AsksFind
 asks_find d lines below m invoke ask h asked alone is word = askers_found d m invoke ask asked is word (no_far d lines below m invoke ask h alone is word)

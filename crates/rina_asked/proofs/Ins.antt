@@ -1,9 +1,10 @@
 -- An SDU comes on a link.
-use Rattle.std.proofs.Common.{◌+◌, ◌≡◌, ◌∙◌, inl, inr, ⊎_elim, ℕ, ◌<◌, Bool, List, [], ◌++◌, length, slice_get, slice_set, Option, Some, None, Result, Ok, Err, refl, sym, ap, subst, arith}
+use Rattle.std.proofs.Common.{◌+◌, ◌≡◌, ◌⊎◌, ◌∙◌, inl, inr, ⊎_elim, ℕ, ◌<◌, Bool, List, [], ◌++◌, Contains, length, slice_get, slice_set, Option, Some, None, Result, Ok, Err, refl, sym, ap, subst, arith}
 use Rattle.std.specs.Prelude.{◌==◌}
 use Rattle.std.proofs.lemmas.List.{length-map}
 use Rattle.std.proofs.lemmas.List.Quantifiers.{position-Some}
 use Rattle.std.proofs.lemmas.Option.{same_Some}
+use Rattle.rina_agent.specs.declared.message.ManagementMessage.TheVariants.{ToMember}
 use Rattle.rina_alloc.specs.declared.message.FlowMessage.{FlowMessage}
 use Rattle.rina_base.specs.declared.cause.Cause.{Cause}
 use Rattle.rina_base.specs.declared.cause.Cause.TheVariants as causes
@@ -40,7 +41,7 @@ use Rattle.rina_member.specs.declared.management.Management.{Management}
 use Rattle.rina_dif.specs.declared.dif.Dif.{Dif}
 use Rattle.rina_dif.specs.Connected.{channels_seen}
 use Rattle.rina_dif.specs.FlowMessages.{BringsMessages, HandlesFlows}
-use Rattle.rina_dif.specs.Handling.{HandlesAll, unpassed_sdus}
+use Rattle.rina_dif.specs.Handling.{HandlesAll, HandlesInTurn, unpassed_sdus}
 use Rattle.rina_dif.specs.Holding.{Holds, LinksStand}
 use Rattle.rina_dif.specs.Routing.{MayReroute}
 use Rattle.rina_dif.specs.Shown.{seen_of}
@@ -50,18 +51,22 @@ use Rattle.rina_dif.proofs.Flooding.{taken_said}
 use Rattle.rina_dif.proofs.FlowWalk.{silent_rerouted}
 use Rattle.rina_dif.proofs.Hearing.{side_across}
 use Rattle.rina_dif.proofs.Leaves.{shown_at}
-use Rattle.rina_asked.specs.Alone.{AreAlone, asks, one, text_asks}
+use Rattle.rina_asked.specs.Alone.{AreAlone}
 use Rattle.rina_asked.specs.Ends.{HaveEnds}
+use Rattle.rina_asked.specs.Single.{AreSingle}
 use Rattle.rina_asked.specs.Calls.{InKeeps}
+use Rattle.rina_asked.specs.Messages.{IsMessage, IsOnLink}
 use Rattle.rina_asked.proofs.Askers.{KeepAskers, askers_keep, askers_same, names_same}
-use Rattle.rina_asked.proofs.Brought.{brought_asked, brought_fewer, still_stand}
-use Rattle.rina_asked.proofs.Fewer.{Balanced, alone_by, balanced_later, fewer_both}
-use Rattle.rina_asked.proofs.Walk.{AloneWith, flows_alone, with_none}
-use Rattle.rina_asked.proofs.Weights.{other_weighs}
-use Rattle.rina_asked.proofs.Flows.{AllAsked, all_on, flows_asked}
-use Rattle.rina_asked.proofs.Keeps.{stays}
+use Rattle.rina_asked.proofs.Brought.{all_came, brought_among, brought_fewer, still_stand}
+use Rattle.rina_asked.proofs.Fewer.{Balanced, FewerWith, balanced_later, fewer_both, fewer_none}
+use Rattle.rina_asked.proofs.OnceWalk.{flows_single, single_with}
+use Rattle.rina_asked.proofs.Once.{single_lasts}
+use Rattle.rina_asked.proofs.Walk.{alone_with, flows_alone}
+use Rattle.rina_asked.proofs.Flows.{AllOf, all_on, all_so, flows_asked}
+use Rattle.rina_asked.proofs.Keeps.{asked_flow, stays}
 use Rattle.rina_asked.proofs.Quiet.{Lasts, alone_lasts, as_long, ends_last, ends_flows, ends_seen, quiet_by}
 use Rattle.rina_asked.proofs.Links.{more_links, NoMoreOnLinks, handled_links, links_on, links_same, said_links}
+use Rattle.rina_asked.proofs.Texts.{IsAskedFlow}
 use Rattle.rina_asked.proofs.Turns.{turns_add}
 use Rattle.rina_asked.proofs.Waiting.{Adds, IsOther, near_set, none_added, same_added}
 
@@ -154,6 +159,22 @@ module _ (d : Dif) (below : Seen) (i n : ℕ) (a b : Came d below i n) where
   moved : (P : ℕ → Port → Hop → Type 0) → P a.since a.link.port a.hop → P b.since b.link.port b.hop
   moved P p = subst (λ (l : Link). P b.since l.port b.hop) same_link (subst (λ (x : ℕ). P x a.link.port b.hop) same_since (subst (λ (x : Hop). P a.since a.link.port x) same_hop p))
 
+-- a member handled texts that were on a link, and no other member did anything
+pub record HandlesOnLink (d handled : Dif) : Type 0 where
+  pub place : ℕ
+  pub management : Management
+  pub is_management : slice_get d.managements place ≡ Some management
+  pub after : Management
+  pub now : ℕ
+  pub number : ℕ
+  pub texts : List (List ℕ)
+  pub on_link : (text : List ℕ) → Contains texts text → IsOnLink d text
+  pub handles : HandlesInTurn now number texts management after
+  pub are : handled.managements ≡ slice_set d.managements place after
+
+abbrev pub MayHandle : Dif → Dif → Type 0
+MayHandle d handled = (handled.managements ≡ d.managements) ⊎ HandlesOnLink d handled
+
 -- What the member makes of it
 
 module _ (d : Dif) (lines : List Direction) (below : Seen) (h : Holds d lines below) (kept : AreKept below) (i n : ℕ) (key : Key) (end : Took) (taken : Dif) (between : List Direction) (below' : Seen) (kept' : AreKept below') (handled : Dif)
@@ -227,24 +248,38 @@ module _ (d : Dif) (lines : List Direction) (below : Seen) (h : Holds d lines be
         let ms : handled.managements ≡ slice_set d.managements i a.after = ap (λ (z : Dif). z.managements) a.only ∙ ap (λ (x : List Management). slice_set x i a.after) managed in
         subst (Adds IsOther d.managements) (sym ms) (near_set d.managements i a.management a.after (ap (λ (x : List Management). slice_get x i) (sym managed) ∙ a.is_management) (turns_add taken.clock n (unpassed_sdus a.here.end) a.management a.after a.handles))
 
+    own_handles : (ms : List FlowMessage) → BringsMessages d place its ms → HandlesOnLink d handled
+    own_handles ms brings =
+        let on = on_link own.for_link in
+        record {
+          place = i;
+          management = a.management;
+          is_management = ap (λ (x : List Management). slice_get x i) (sym managed) ∙ a.is_management;
+          after = a.after;
+          now = taken.clock;
+          number = n;
+          texts = unpassed_sdus a.here.end;
+          on_link = all_came d i since port hop lines below h kept links.is_oldest place its own end on.dropped taken links.links' on.takes (leaves own.for_link) below' stands ms brings a.here.end a.here.is_end;
+          handles = a.handles;
+          are = ap (λ (z : Dif). z.managements) a.only ∙ ap (λ (x : List Management). slice_set x i a.after) managed;
+        }
+
     own_links : NoMoreOnLinks d handled
     own_links =
         let p = a.passes in
         let le = (stands.standing.journal.whole place p.end p.is_end).taken in
         links_on d taken handled taken_links (handled_links taken handled place p.end (record p.end { taken = length p.end.got }) p.is_end p.ends refl le (omega arith) le)
 
-    -- the asks that it makes whole are on the link no more
-    own_alone : (ms : List FlowMessage) → BringsMessages d place its ms → Balanced d.flows.journal.ends handled.flows.journal.ends → AreAlone d → AloneWith handled ms
-    own_alone ms brings balanced alone f least is =
+    -- the messages that it makes whole are on the link no more
+    own_fewer : (ms : List FlowMessage) → BringsMessages d place its ms → FewerWith d handled ms
+    own_fewer ms brings F G other same least =
         let p = a.passes in
         let k : ℕ = least + ((side_across place).0 + 1) in
         let on = on_link own.for_link in
-        let before = alone f k is in
-        let waits = own_adds.fewer (λ x. one (asks f x)) (other_weighs f) in
-        let fewer = brought_fewer d i since port hop lines below h kept links.is_oldest place its own end on.dropped taken links.links' on.takes (leaves own.for_link) below' stands handled p.end p.is_end p.ends f ms brings k (omega arith) in
-        let more = more_links (λ t. one (text_asks f t)) handled least k (omega arith) in
-        let ends = balanced f in
-        omega (arith, before, waits, fewer, more, ends)
+        let waits = own_adds.fewer F other in
+        let fewer = brought_fewer d i since port hop lines below h kept links.is_oldest place its own end on.dropped taken links.links' on.takes (leaves own.for_link) below' stands handled p.end p.is_end p.ends (λ m. F (ToMember m)) G (λ m text is. same (ToMember m) text is) ms brings k (omega arith) in
+        let more = more_links G handled least k (omega arith) in
+        (k, omega (arith, waits, fewer, more))
 
   -- be it or not
   moved_handles : HandlesPiece d i n since port hop taken below' handled
@@ -264,59 +299,71 @@ module _ (d : Dif) (lines : List Direction) (below : Seen) (h : Holds d lines be
     | inr none ↦ subst (NoMoreOnLinks d) (sym none.1) taken_links
   ]
 
-  none_alone : (ms : List FlowMessage) → ms ≡ [] → Balanced d.flows.journal.ends handled.flows.journal.ends → AreAlone d → AloneWith handled ms
-  none_alone ms none balanced alone = subst (AloneWith handled) (sym none) (with_none handled (alone_by d handled (fewer_both d handled took_adds took_links) balanced alone))
-
-  -- what it brings
-  took_alone : (ms : List FlowMessage) → BringsOldest d below i n ms → Balanced d.flows.journal.ends handled.flows.journal.ends → AreAlone d → AloneWith handled ms
-  took_alone ms brings =
+  took_handles : (ms : List FlowMessage) → BringsOldest d below i n ms → MayHandle d handled
+  took_handles ms brings =
       let it : Came d below i n = record { process = brings.process; is_process = brings.is_process; link = brings.link; is_link = brings.is_link; since = brings.since; hop = brings.hop; is_oldest = brings.is_oldest } in
       both moved_handles (moved d below i n it first (λ x p y. BringsFlows d x p y ms) brings.brings)
     where
-      both : HandlesPiece d i n since port hop taken below' handled → BringsFlows d since port hop ms → Balanced d.flows.journal.ends handled.flows.journal.ends → AreAlone d → AloneWith handled ms
-      both does (inr none) = none_alone ms none.1
+      both : HandlesPiece d i n since port hop taken below' handled → BringsFlows d since port hop ms → MayHandle d handled
+      both (inr none) brought = inl (ap (λ (z : Dif). z.managements) none.1 ∙ managed)
+      both (inl does) (inr none) = absurd (none.0 does.0 does.1 does.2)
+      both (inl does) (inl own) =
+          let same : does.0 ≡ own.0 = same_Some does.0 own.0 (sym does.2.taker.at ∙ own.2.taker.at) in
+          inr (own_handles own.0 own.1 own.2 (subst (λ (k : ℕ). (links' : LinksStand taken below') → HandlesAll taken links'.lines i k n handled) same does.3) ms own.3)
+
+  -- what it brings
+  took_fewer : (ms : List FlowMessage) → BringsOldest d below i n ms → FewerWith d handled ms
+  took_fewer ms brings =
+      let it : Came d below i n = record { process = brings.process; is_process = brings.is_process; link = brings.link; is_link = brings.is_link; since = brings.since; hop = brings.hop; is_oldest = brings.is_oldest } in
+      both moved_handles (moved d below i n it first (λ x p y. BringsFlows d x p y ms) brings.brings)
+    where
+      both : HandlesPiece d i n since port hop taken below' handled → BringsFlows d since port hop ms → FewerWith d handled ms
+      both does (inr none) = subst (FewerWith d handled) (sym none.1) (fewer_none d handled (fewer_both d handled took_adds took_links))
       both (inr none) (inl own) = absurd (none.0 own.0 own.1 own.2)
       both (inl does) (inl own) =
           let same : does.0 ≡ own.0 = same_Some does.0 own.0 (sym does.2.taker.at ∙ own.2.taker.at) in
-          own_alone own.0 own.1 own.2 (subst (λ (k : ℕ). (links' : LinksStand taken below') → HandlesAll taken links'.lines i k n handled) same does.3) ms own.3
+          own_fewer own.0 own.1 own.2 (subst (λ (k : ℕ). (links' : LinksStand taken below') → HandlesAll taken links'.lines i k n handled) same does.3) ms own.3
 
-  -- of what it brings the askers' ends stand
-  took_asked : (ms : List FlowMessage) → BringsOldest d below i n ms → HaveEnds d → AllAsked d ms
-  took_asked ms brings asked =
+  -- each message that it brings is among those of the DIF
+  took_among : (ms : List FlowMessage) → BringsOldest d below i n ms → AllOf (IsMessage d) ms
+  took_among ms brings =
       let it : Came d below i n = record { process = brings.process; is_process = brings.is_process; link = brings.link; is_link = brings.is_link; since = brings.since; hop = brings.hop; is_oldest = brings.is_oldest } in
       elim (moved d below i n it first (λ x p y. BringsFlows d x p y ms) brings.brings) [
         | inl own ↦
             (let on = on_link own.2.for_link in
-            brought_asked d i since port hop lines below h kept links.is_oldest own.0 own.1 own.2 end on.dropped taken links.links' on.takes (leaves own.2.for_link) below' (stand own.0 own.1 own.2) ms own.3 asked)
-        | inr none ↦ subst (AllAsked d) (sym none.1) tt
+            brought_among d i since port hop lines below h kept links.is_oldest own.0 own.1 own.2 end on.dropped taken links.links' on.takes (leaves own.2.for_link) below' (stand own.0 own.1 own.2) ms own.3)
+        | inr none ↦ subst (AllOf (IsMessage d)) (sym none.1) tt
       ]
 
 -- By the answer
 
 -- as the DIF is behind all but the messages about flows
 pub record IsHandled (d : Dif) (handled : Dif) (ms : List FlowMessage) : Type 0 where
+  pub handles : MayHandle d handled
   pub adds : Adds IsOther d.managements handled.managements
   pub links : NoMoreOnLinks d handled
-  pub all : HaveEnds d → AllAsked d ms
-  pub alone : Balanced d.flows.journal.ends handled.flows.journal.ends → AreAlone d → AloneWith handled ms
+  pub among : AllOf (IsMessage d) ms
+  pub fewer : FewerWith d handled ms
 
-plain : (d taken handled : Dif) (ms : List FlowMessage) → taken.connections ≡ d.connections → taken.managements ≡ d.managements → handled ≡ taken → ms ≡ [] → IsHandled d handled ms
+pub plain : (d taken handled : Dif) (ms : List FlowMessage) → taken.connections ≡ d.connections → taken.managements ≡ d.managements → handled ≡ taken → ms ≡ [] → IsHandled d handled ms
 plain d taken handled ms connections managed same none =
     let adds : Adds IsOther d.managements handled.managements = same_added IsOther d.managements handled.managements (ap (λ (z : Dif). z.managements) same ∙ managed) in
     let links : NoMoreOnLinks d handled = links_same d handled (ap (λ (z : Dif). z.connections) same ∙ connections) in
     record {
+      handles = inl (ap (λ (z : Dif). z.managements) same ∙ managed);
       adds = adds;
       links = links;
-      all = λ asked. subst (AllAsked d) (sym none) tt;
-      alone = λ balanced alone. subst (AloneWith handled) (sym none) (with_none handled (alone_by d handled (fewer_both d handled adds links) balanced alone));
+      among = subst (AllOf (IsMessage d)) (sym none) tt;
+      fewer = subst (FewerWith d handled) (sym none) (fewer_none d handled (fewer_both d handled adds links));
     }
 
 pub by_answer : (d : Dif) (lines : List Direction) (below : Seen) (h : Holds d lines below) → AreKept below → (i n : ℕ) (answer : Result InStep StepError) (taken : Dif) (between : List Direction) (below' : Seen) → AreKept below' → (handled : Dif) (ms : List FlowMessage) → Ins (seen_of d) lines below i n answer (seen_of taken) between below' → TakesLinks d h.connected.lines below i n answer taken → taken.managements ≡ d.managements → Handles d below i n answer taken below' handled → AreBrought d below i n answer ms → IsHandled d handled ms
 by_answer d lines below h kept i n (Ok (in_.Took key end)) taken between below' kept' handled ms does links managed handles brought = record {
+  handles = took_handles d lines below h kept i n key end taken between below' kept' handled does links managed handles ms brought;
   adds = took_adds d lines below h kept i n key end taken between below' kept' handled does links managed handles;
   links = took_links d lines below h kept i n key end taken between below' kept' handled does links managed handles;
-  all = took_asked d lines below h kept i n key end taken between below' kept' handled does links managed handles ms brought;
-  alone = took_alone d lines below h kept i n key end taken between below' kept' handled does links managed handles ms brought;
+  among = took_among d lines below h kept i n key end taken between below' kept' handled does links managed handles ms brought;
+  fewer = took_fewer d lines below h kept i n key end taken between below' kept' handled does links managed handles ms brought;
 }
 by_answer d lines below h kept i n (Ok in_.Idle) taken between below' kept' handled ms does links managed handles brought = plain d taken handled ms links managed handles brought
 by_answer d lines below h kept i n (Err step.Memory) taken between below' kept' handled ms does links managed handles brought = plain d taken handled ms links managed handles brought
@@ -325,7 +372,7 @@ by_answer d lines below h kept i n (Err step.NoIpc) taken between below' kept' h
 by_answer d lines below h kept i n (Err step.NoLink) taken between below' kept' handled ms does links managed handles brought = plain d taken handled ms links managed handles brought
 
 -- memory did not run out behind it
-not_stopped : (stopped : Result (Unit {0}) NoMemory) (answer result : Result InStep StepError) → EndsAs stopped answer result → (result ≡ Err step.Memory → ⊥) → stopped ≡ Ok tt
+pub not_stopped : (stopped : Result (Unit {0}) NoMemory) (answer result : Result InStep StepError) → EndsAs stopped answer result → (result ≡ Err step.Memory → ⊥) → stopped ≡ Ok tt
 not_stopped (Ok done) answer result ends some = refl
 not_stopped (Err e) (Ok (in_.Took key end)) result ends some = absurd (some ends)
 not_stopped (Err e) (Ok in_.Idle) result ends some = absurd ends
@@ -336,14 +383,17 @@ noted : (P : Dif → Type 0) → Lasts P → (d : Dif) (failed : Bool) → P (re
 noted P lasts d failed = lasts (record d { failed = failed }) d (quiet_by (record d { failed = failed }) d (askers_same (record d { failed = failed }) d refl) (ends_flows (record d { failed = failed }) d refl) (none_added IsOther d.managements) (links_same (record d { failed = failed }) d refl))
 
 -- what lasts while the messages about flows are handled
-abbrev Walks : (Dif → Type 0) → Type 0
+abbrev pub Walks : (Dif → Type 0) → Type 0
 Walks P = (d handled end : Dif) (lines' lines : List Direction) (below : Seen) (i : ℕ) (ms : List FlowMessage) → KeepAskers d handled → Balanced d.flows.journal.ends handled.flows.journal.ends → IsHandled d handled ms → Holds handled lines below → i < length handled.settings.members → HandlesFlows handled lines below i ms (Ok tt) end lines' → P d → P end
 
 asked_walks : Walks HaveEnds
-asked_walks d handled end lines' lines below i ms keeps balanced b stood lt walk asked = flows_asked handled lines below stood i ms end lines' lt (all_on d handled ms keeps (b.all asked)) walk (ends_last d handled (quiet_by d handled keeps balanced b.adds b.links) asked)
+asked_walks d handled end lines' lines below i ms keeps balanced b stood lt walk asked = flows_asked handled lines below stood i ms end lines' lt (all_on d handled ms keeps (all_so (IsMessage d) (IsAskedFlow d) (asked_flow d asked) ms b.among)) walk (ends_last d handled (quiet_by d handled keeps balanced b.adds b.links) asked)
 
 alone_walks : Walks AreAlone
-alone_walks d handled end lines' lines below i ms keeps balanced b stood lt walk alone = flows_alone handled lines below stood i ms end lines' lt walk (b.alone balanced alone)
+alone_walks d handled end lines' lines below i ms keeps balanced b stood lt walk alone = flows_alone handled lines below stood i ms end lines' lt walk (alone_with d handled ms b.fewer balanced alone)
+
+single_walks : Walks AreSingle
+single_walks d handled end lines' lines below i ms keeps balanced b stood lt walk single = flows_single handled lines below stood i ms end lines' lt walk (single_with d handled ms b.fewer b.adds.ids single)
 
 told_kept : (P : Dif → Type 0) → Lasts P → Walks P → (d : Dif) (lines : List Direction) (below : Seen) → Holds d lines below → AreKept below → (i n : ℕ) (answer : Result InStep StepError) (taken : Dif) (between : List Direction) (below' : Seen) → AreKept below' → (handled : Dif) (result : Result InStep StepError) (d' : Dif) (lines' : List Direction) → Ins (seen_of d) lines below i n answer (seen_of taken) between below'
     → ((links : LinksStand d below) → TakesLinks d links.lines below i n answer taken) → taken.managements ≡ d.managements → Handles d below i n answer taken below' handled → MayReroute (seen_of taken) (seen_of handled) → Holds handled between below' → TellsFlows d below i n answer handled between below' result d' lines' → i < length handled.settings.members → (result ≡ Err step.Memory → ⊥) → P d → P d'
@@ -357,17 +407,17 @@ told_kept P lasts walks d lines below h kept i n answer taken between below' kep
 
 -- By node
 
-at_some : (o : Option ℕ) (i : ℕ) (P : ℕ → Type 0) (Q : Type 0) → o ≡ Some i → AtHome o P Q → P i
+pub at_some : (o : Option ℕ) (i : ℕ) (P : ℕ → Type 0) (Q : Type 0) → o ≡ Some i → AtHome o P Q → P i
 at_some o i P Q here p = subst (λ (z : Option ℕ). AtHome z P Q) here p
 
-at_none : (o : Option ℕ) (P : ℕ → Type 0) (Q : Type 0) → o ≡ None → AtHome o P Q → Q
+pub at_none : (o : Option ℕ) (P : ℕ → Type 0) (Q : Type 0) → o ≡ None → AtHome o P Q → Q
 at_none o P Q none p = subst (λ (z : Option ℕ). AtHome z P Q) none p
 
 -- what a step does at a node without a member
 abbrev Nowhere : DifSeen → List Direction → Seen → Result InStep StepError → DifSeen → List Direction → Seen → Type 0
 Nowhere d lines below answer d' lines' below' = (answer ≡ Err step.NoIpc) × (d' ≡ d) × (lines' ≡ lines) × (below' ≡ below)
 
-ins_at : (d : DifSeen) (lines : List Direction) (below : Seen) (node n i : ℕ) (answer : Result InStep StepError) (d' : DifSeen) (lines' : List Direction) (below' : Seen) → home node d.config.members ≡ Some i → InsAt d lines below node n answer d' lines' below' → Ins d lines below i n answer d' lines' below'
+pub ins_at : (d : DifSeen) (lines : List Direction) (below : Seen) (node n i : ℕ) (answer : Result InStep StepError) (d' : DifSeen) (lines' : List Direction) (below' : Seen) → home node d.config.members ≡ Some i → InsAt d lines below node n answer d' lines' below' → Ins d lines below i n answer d' lines' below'
 ins_at d lines below node n i (Ok done) d' lines' below' here s = at_some (home node d.config.members) i (λ k. Ins d lines below k n (Ok done) d' lines' below') (Nowhere d lines below (Ok done) d' lines' below') here s
 ins_at d lines below node n i (Err step.Memory) d' lines' below' here s = s
 ins_at d lines below node n i (Err (step.CountSpent need left)) d' lines' below' here s = at_some (home node d.config.members) i (λ k. Ins d lines below k n (Err (step.CountSpent need left)) d' lines' below') (Nowhere d lines below (Err (step.CountSpent need left)) d' lines' below') here s
@@ -381,17 +431,20 @@ none_at d lines below node n (Err (step.CountSpent need left)) d' lines' below' 
 none_at d lines below node n (Err step.NoIpc) d' lines' below' none s = (at_none (home node d.config.members) (λ k. Ins d lines below k n (Err step.NoIpc) d' lines' below') (Nowhere d lines below (Err step.NoIpc) d' lines' below') none s).1
 none_at d lines below node n (Err step.NoLink) d' lines' below' none s = (at_none (home node d.config.members) (λ k. Ins d lines below k n (Err step.NoLink) d' lines' below') (Nowhere d lines below (Err step.NoLink) d' lines' below') none s).1
 
+pub member_within : (d : Dif) (lines : List Direction) (below : Seen) (node n i : ℕ) (answer : Result InStep StepError) (taken : Dif) (between : List Direction) (below' : Seen) (handled : Dif) → home node (config_of d.settings).members ≡ Some i → Ins (seen_of d) lines below i n answer (seen_of taken) between below' → MayReroute (seen_of taken) (seen_of handled) → i < length handled.settings.members
+member_within d lines below node n i answer taken between below' handled here does rerouted =
+    let within : i < length d.settings.members = (let p = position-Some (λ (x : Member). x.node == node) (config_of d.settings).members i (record { addr = 0; name = []; node = 0 }) here in let lt = p.0 in let long = length-map d.settings.members member_of in omega (arith, lt, long)) in
+    subst (λ (k : ℕ). i < k) (sym (as_many d lines below i n answer taken between below' handled does rerouted)) within
+
 home_kept : (P : Dif → Type 0) → Lasts P → Walks P → (o : Option ℕ) (d : Dif) (lines : List Direction) (below : Seen) (node n : ℕ) (result : Result InStep StepError) (d' : Dif) (below' : Seen) → home node (config_of d.settings).members ≡ o → Holds d lines below → AreKept below → AreKept below' → TakesHome d lines below node n result d' below' → (result ≡ Err step.Memory → ⊥) → P d → P d'
 home_kept P lasts walks (Some i) d lines below node n result d' below' here h kept kept' t some holds =
     let o : Option ℕ = home node (config_of d.settings).members in
     let does = ins_at (seen_of d) lines below node n i t.answer (seen_of t.taken) t.between below' here t.does in
-    let within : i < length d.settings.members = (let p = position-Some (λ (x : Member). x.node == node) (config_of d.settings).members i (record { addr = 0; name = []; node = 0 }) here in let lt = p.0 in let long = length-map d.settings.members member_of in omega (arith, lt, long)) in
-    let many = as_many d lines below i n t.answer t.taken t.between below' t.handled does t.rerouted in
     told_kept P lasts walks d lines below h kept i n t.answer t.taken t.between below' kept' t.handled result d' t.lines' does
     (λ links. at_some o i (λ k. TakesLinks d links.lines below k n t.answer t.taken) (t.taken.connections ≡ d.connections) here (t.links links)) t.managed
     (at_some o i (λ k. Handles d below k n t.answer t.taken below' t.handled) (t.handled ≡ t.taken) here t.handles) t.rerouted t.stood
     (at_some o i (λ k. TellsFlows d below k n t.answer t.handled t.between below' result d' t.lines') (TellsNothing t.answer t.handled t.between result d' t.lines') here t.told)
-    (subst (λ (k : ℕ). i < k) (sym many) within) some holds
+    (member_within d lines below node n i t.answer t.taken t.between below' t.handled here does t.rerouted) some holds
 home_kept P lasts walks None d lines below node n result d' below' none h kept kept' t some holds =
     let o : Option ℕ = home node (config_of d.settings).members in
     let same : t.handled ≡ t.taken = at_none o (λ k. Handles d below k n t.answer t.taken below' t.handled) (t.handled ≡ t.taken) none t.handles in
@@ -403,7 +456,7 @@ home_kept P lasts walks None d lines below node n result d' below' none h kept k
     let p = plain d t.taken t.handled [] connections t.managed same refl in
     noted P lasts d' t.handled.failed (subst P (sym told.1) (lasts d t.handled (quiet_by d t.handled keeps (ends_seen d t.handled seen) p.adds p.links) holds))
 
-in_keeps : (P : Dif → Type 0) → Lasts P → Walks P → InKeeps P
+pub in_keeps : (P : Dif → Type 0) → Lasts P → Walks P → InKeeps P
 in_keeps P lasts walks d d' below below' node link result kept kept' st does notes = stays P d d' result (Err step.Memory) notes (λ some.
     home_kept P lasts walks _ d st.0 below node link result d' below' refl st.1 kept kept' (does st.0 st.1) some)
 
@@ -412,3 +465,6 @@ in_keeps_ends = in_keeps HaveEnds ends_last asked_walks
 
 pub in_keeps_alone : InKeeps AreAlone
 in_keeps_alone = in_keeps AreAlone alone_lasts alone_walks
+
+pub in_keeps_single : InKeeps AreSingle
+in_keeps_single = in_keeps AreSingle single_lasts single_walks

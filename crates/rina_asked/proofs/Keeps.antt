@@ -11,15 +11,20 @@ use Rattle.rina_member.specs.Managements.{IsSduOf}
 use Rattle.rina_dif.specs.declared.dif.Dif.{Dif}
 use Rattle.rina_dif.specs.FarMaking.{HasFar, IsAskerOf}
 use Rattle.rina_asked.specs.Ends.{HaveEnds, HasEnd}
-use Rattle.rina_asked.specs.Calls.{NotesMemory, Stays, YesesFind}
+use Rattle.rina_dif.specs.Facade.{NotesMemory}
+use Rattle.rina_asked.specs.Calls.{Stays, YesesFind}
 use Rattle.rina_asked.specs.Messages.{IsMessage, IsOnLink, IsOnWay}
 use Rattle.rina_asked.proofs.Askers.{KeepAskers, asker_on}
-use Rattle.rina_asked.proofs.Texts.{IsAskedText}
+use Rattle.rina_asked.proofs.Texts.{IsAskedFlow, IsAskedText, one_text}
 use Rattle.rina_asked.proofs.Waiting.{Adds, HasWaiting}
 
 -- what is on its way is asked
 pub way_asked : (d : Dif) (text : List ℕ) → HaveEnds d → IsOnWay d text → IsAskedText d text
 way_asked d text h way m is = h m (record { text = text; on_way = way; is = is })
+
+-- and so is each message
+pub asked_flow : (d : Dif) → HaveEnds d → (m : FlowMessage) → IsMessage d m → IsAskedFlow d m
+asked_flow d h m is text spelled = subst (IsAskedText d) (one_text m is.text text is.is.spelled spelled) (way_asked d is.text h is.on_way)
 
 pub text_on : (d d' : Dif) (text : List ℕ) → KeepAskers d d' → IsAskedText d text → IsAskedText d' text
 text_on d d' text keeps asked m is = asker_on d d' m.to m.from m.word keeps (asked m is)

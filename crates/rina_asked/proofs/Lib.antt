@@ -1,8 +1,10 @@
 pub mod Counting
 pub mod Names
+pub mod Drawn
 pub mod Agendas
 pub mod Waiting
 pub mod Weights
+pub mod Belonging
 pub mod Texts
 pub mod Askers
 pub mod Links
@@ -12,8 +14,16 @@ pub mod Keeps
 pub mod Quiet
 pub mod Calls
 pub mod Allocates
+pub mod AllocatesOnce
+pub mod Own
+pub mod Awaits
+pub mod AllocatesOwn
+pub mod OwnWalk
+pub mod OwnIns
 pub mod Flows
 pub mod Walk
+pub mod Once
+pub mod OnceWalk
 pub mod Turns
 pub mod Brought
 pub mod Ins
@@ -22,3 +32,5 @@ pub mod Enrols
 pub mod Starts
 pub mod Found
 pub mod Looks
+pub mod Doing
+pub mod Late

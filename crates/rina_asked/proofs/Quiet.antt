@@ -39,6 +39,13 @@ ends_last d d' q = asked_by IsOther d d' q.askers q.adds (λ w text has other sd
 pub alone_lasts : Lasts AreAlone
 alone_lasts d d' q = alone_by d d' q.fewer q.ends
 
+-- or only through those in which the same asks wait on
+abbrev pub LastsSame : (Dif → Type 0) → Type 0
+LastsSame P = (d d' : Dif) → IsQuiet d d' → d'.asks ≡ d.asks → P d → P d'
+
+pub lasts_same : (P : Dif → Type 0) → Lasts P → LastsSame P
+lasts_same P lasts d d' q same = lasts d d' q
+
 -- The ends
 
 pub ends_flows : (d d' : Dif) → d'.flows ≡ d.flows → Balanced d.flows.journal.ends d'.flows.journal.ends

@@ -19,6 +19,7 @@ use Rattle.rina_plan.specs.declared.dif.LinkPlan.{LinkPlan}
 use Rattle.rina_stack.specs.declared.plan.Plan.{Plan}
 use Rattle.rina_route.proofs.Lists.{in_none}
 use Rattle.rina_dif.specs.declared.dif.Dif.{Dif}
+use Rattle.rina_dif.specs.declared.waiting_asks.WaitingAsk.{WaitingAsk}
 use Rattle.rina_dif.specs.Flooding.{handled_at, offered_at, texts_of}
 use Rattle.rina_dif.specs.Holding.{Stands}
 use Rattle.rina_dif.specs.Laying.{IsNew}
@@ -26,8 +27,10 @@ use Rattle.rina_dif.specs.Linking.{IsConnected, IsOpen}
 use Rattle.rina_dif.specs.Planned.{links_of}
 use Rattle.rina_dif.proofs.Leaves.{has_process}
 use Rattle.rina_asked.specs.Alone.{AreAlone, all_on_links, askers, asks, far_ends, one, one_waiting, text_asks}
+use Rattle.rina_asked.specs.Awaited.{AreAwaited}
 use Rattle.rina_asked.specs.Ends.{HaveEnds}
 use Rattle.rina_asked.specs.Messages.{on_link}
+use Rattle.rina_asked.specs.Single.{AreSingle, belongs, text_belongs}
 use Rattle.rina_asked.proofs.Counting.{sum_each, sum_none}
 use Rattle.rina_asked.proofs.Links.{contains_drop}
 
@@ -40,7 +43,7 @@ none_offered ends None k text unused is has = in_none text has
 none_offered ends (Some e) k text unused is has = in_none text (subst (λ (es : List Entry). Contains (texts_of es) text) (unused k e is).sent has)
 
 module _ (plan : Plan) (i : ℕ) (dif : DifPlan) (d : Dif) (old new : Seen) (is_dif : slice_get plan.difs i ≡ Some dif) (n : IsNew plan i d old new) (c : IsConnected d dif.manage (links_of plan i) old new) (st : Stands d new) where
-  none_waits : (k : ℕ) (m : Management) → slice_get d.managements k ≡ Some m → m.agent.agenda ≡ []
+  pub none_waits : (k : ℕ) (m : Management) → slice_get d.managements k ≡ Some m → m.agent.agenda ≡ []
   none_waits k m is =
       let managed = n.managed dif is_dif in
       let within = slice_get_within d.managements k m is in
@@ -51,7 +54,7 @@ module _ (plan : Plan) (i : ℕ) (dif : DifPlan) (d : Dif) (old new : Seen) (is_
       let first = managed.each k member.0 process.0 m member.1 process.1 is in
       ap (λ (g : Agent). g.agenda) first.is ∙ started_agenda dif.is_static d.settings.members dif.links first.access member.0 process.0.links
 
-  none_on : (l : ℕ) (side : Side) (text : List ℕ) → Contains (on_link d l side) text → ⊥
+  pub none_on : (l : ℕ) (side : Side) (text : List ℕ) → Contains (on_link d l side) text → ⊥
   none_on l side text has = none_offered d.connections.flows.journal.ends _ (end_place l side) text c.have.unused refl (contains_drop (length (handled_at (slice_get d.connections.flows.journal.ends (end_place l (other side))))) (offered_at (slice_get d.connections.flows.journal.ends (end_place l side))) text has)
 
   pub new_asked : HaveEnds d
@@ -67,6 +70,17 @@ module _ (plan : Plan) (i : ℕ) (dif : DifPlan) (d : Dif) (old new : Seen) (is_
       let near = sum_none G (on_link d l Near) (λ text has. absurd (none_on l Near text has)) in
       let far = sum_none G (on_link d l Far) (λ text has. absurd (none_on l Far text has)) in
       omega (arith, rest, near, far)
+
+  pub new_single : AreSingle d
+  new_single k links is =
+      let waits = sum_each (one_waiting (λ x. one (belongs k x))) d.managements (λ i m at. ap (sum_by (λ (w : Waiting). one (belongs k w.message))) (none_waits i m at)) in
+      let on = none_counts (λ t. one (text_belongs k t)) links in
+      omega (arith, waits, on)
+
+  pub new_awaited : AreAwaited d
+  new_awaited =
+      let none : (w : WaitingAsk) → Contains d.asks.items w → ⊥ = λ w has. in_none w (subst (λ (asks : List WaitingAsk). Contains asks w) n.asks has) in
+      (new_single, record { stand = λ w has. absurd (none w has); own = λ w has m is. absurd (none w has) })
 
   pub new_alone : AreAlone d
   new_alone f links is =

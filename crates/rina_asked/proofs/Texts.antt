@@ -17,8 +17,8 @@ use Rattle.rina_agent.specs.declared.message.ManagementMessage.TheVariants.{ToMe
 use Rattle.rina_member.specs.Managements.{IsSduOf}
 use Rattle.rina_member.proofs.TextsApart.{texts_apart}
 use Rattle.rina_dif.specs.declared.dif.Dif.{Dif}
+use Rattle.rina_dif.specs.FlowMessages.{IsTextOf}
 use Rattle.rina_asked.specs.Ends.{HasEnd, IsFarEnd}
-use Rattle.rina_asked.specs.Messages.{IsTextOf}
 use Rattle.rina_asked.proofs.Waiting.{IsOther}
 
 -- the fourth byte is the operation
@@ -54,7 +54,7 @@ cep_at : (to from invoke : ℕ) (answer : FlowAnswer) (text : List ℕ) → IsSp
 unfolding be2 be4 contents field_text message_of
 cep_at to from invoke answer text spelled = ap (λ (bytes : List ℕ). take 4 (drop 22 bytes)) spelled.spelled
 
-to_at : (to from invoke : ℕ) (answer : FlowAnswer) (text : List ℕ) → IsSpelled (record { to = to; from = from; word = words.Answer invoke answer }) text → take 4 (drop 37 text) ≡ be4 to
+pub to_at : (to from invoke : ℕ) (answer : FlowAnswer) (text : List ℕ) → IsSpelled (record { to = to; from = from; word = words.Answer invoke answer }) text → take 4 (drop 37 text) ≡ be4 to
 unfolding be2 be4 contents field_text message_of
 to_at to from invoke answer text spelled = ap (λ (bytes : List ℕ). take 4 (drop 37 bytes)) spelled.spelled
 
@@ -62,7 +62,7 @@ from_at : (to from invoke : ℕ) (answer : FlowAnswer) (text : List ℕ) → IsS
 unfolding be2 be4 contents field_text message_of
 from_at to from invoke answer text spelled = ap (λ (bytes : List ℕ). take 4 (drop 44 bytes)) spelled.spelled
 
-four_same : (m n : ℕ) → m < 2 ^ 32 → n < 2 ^ 32 → be4 m ≡ be4 n → m ≡ n
+pub four_same : (m n : ℕ) → m < 2 ^ 32 → n < 2 ^ 32 → be4 m ≡ be4 n → m ≡ n
 unfolding be4
 four_same m n fits its same = sym (from_be_bytes-to_be_bytes_4 m fits) ∙ ap (from_be_bytes w32) same ∙ from_be_bytes-to_be_bytes_4 n its
 

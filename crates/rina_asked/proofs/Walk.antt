@@ -32,11 +32,12 @@ use Rattle.rina_dif.specs.Holding.{Holds}
 use Rattle.rina_dif.specs.Shown.{seen_of}
 use Rattle.rina_asked.specs.Alone.{AreAlone, IsName, all_on_links, all_waiting, askers, asks, far_ends, is_asker, is_far, is_of, one, text_asks, word_asks}
 use Rattle.rina_asked.proofs.Counting.{sum_set}
-use Rattle.rina_asked.proofs.Fewer.{Balanced, balanced_same, one_end}
+use Rattle.rina_asked.proofs.Fewer.{Balanced, FewerWith, balanced_same, one_end}
 use Rattle.rina_asked.proofs.Flows.{told_weighs, word_adds}
 use Rattle.rina_asked.proofs.Links.{links_same}
 use Rattle.rina_asked.proofs.Names.{name_bytes}
 use Rattle.rina_asked.proofs.Waiting.{posted_once}
+use Rattle.rina_asked.proofs.Weights.{other_weighs, text_weighs}
 
 -- The ends
 
@@ -115,9 +116,14 @@ abbrev pub AloneWith : Dif → List FlowMessage → Type 0
 AloneWith d ms = (f : FlowName) (links : ℕ) → IsName f
     → all_waiting (λ x. one (asks f x)) d.managements + all_on_links (λ t. one (text_asks f t)) d links + in_hand f ms + far_ends f d.flows.journal.ends ≤ askers f d.flows.journal.ends
 
--- none is in hand
-pub with_none : (d : Dif) → AreAlone d → AloneWith d []
-with_none d alone f links is = (let before = alone f links is in omega (arith, before))
+-- where they were among those on their way
+pub alone_with : (d d' : Dif) (ms : List FlowMessage) → FewerWith d d' ms → Balanced d.flows.journal.ends d'.flows.journal.ends → AreAlone d → AloneWith d' ms
+alone_with d d' ms fewer ends alone f links is =
+    let w = fewer (λ x. one (asks f x)) (λ t. one (text_asks f t)) (other_weighs f) (text_weighs f) links in
+    let way : all_waiting (λ x. one (asks f x)) d'.managements + all_on_links (λ t. one (text_asks f t)) d' links + in_hand f ms ≤ all_waiting (λ x. one (asks f x)) d.managements + all_on_links (λ t. one (text_asks f t)) d w.0 = w.1 in
+    let before = alone f w.0 is in
+    let balance = ends f in
+    omega (arith, way, before, balance)
 
 pub flow_alone : (d : Dif) (lines : List Direction) (below : Seen) → Holds d lines below → (i : ℕ) (message : FlowMessage) (ms : List FlowMessage) (d' : Dif) (lines' : List Direction) → i < length d.settings.members → HandlesFlow d lines below i message (Ok tt) d' lines' → AloneWith d (message ∷ ms) → AloneWith d' ms
 flow_alone d lines below holds i message ms d' lines' lt h alone f links is =

@@ -21,11 +21,11 @@ use Rattle.rina_asked.proofs.Waiting.{IsOther}
 abbrev asks_by : FlowName → ℕ → ℕ → List ℕ → Bool
 asks_by f operation class name = (operation == 4) && ((class == 4) && bytes_eq name (name_text f))
 
-operation_at : (m : FlowMessage) (text : List ℕ) → IsSpelled m text → slice_index_or text 3 0 ≡ operation_of m.word
+pub operation_at : (m : FlowMessage) (text : List ℕ) → IsSpelled m text → slice_index_or text 3 0 ≡ operation_of m.word
 unfolding be2 contents field_text message_of
 operation_at m text spelled = ap (λ (bytes : List ℕ). slice_index_or bytes 3 0) spelled.spelled
 
-class_at : (to from invoke : ℕ) (ask : FlowAsk) (text : List ℕ) → IsSpelled (record { to = to; from = from; word = words.Ask invoke ask }) text → slice_index_or text 13 0 ≡ 4
+pub class_at : (to from invoke : ℕ) (ask : FlowAsk) (text : List ℕ) → IsSpelled (record { to = to; from = from; word = words.Ask invoke ask }) text → slice_index_or text 13 0 ≡ 4
 unfolding be2 be4 contents field_text message_of
 class_at to from invoke ask text spelled = ap (λ (bytes : List ℕ). slice_index_or bytes 13 0) spelled.spelled
 
@@ -33,11 +33,11 @@ name_at : (to from invoke : ℕ) (ask : FlowAsk) (text : List ℕ) → IsSpelled
 unfolding be2 be4 contents field_text message_of ask_text
 name_at to from invoke ask text spelled = ap (λ (bytes : List ℕ). take 12 (drop 29 bytes)) spelled.spelled
 
-link_operation_at : (m : LinkMessage) (text : List ℕ) → IsLinkText m text → slice_index_or text 3 0 ≡ link_operation_of m
+pub link_operation_at : (m : LinkMessage) (text : List ℕ) → IsLinkText m text → slice_index_or text 3 0 ≡ link_operation_of m
 unfolding be2 contents field_text link_message_of
 link_operation_at m text spelled = ap (λ (bytes : List ℕ). slice_index_or bytes 3 0) spelled.spelled
 
-item_class_at : (item : Item) (text : List ℕ) → IsLinkText (messages.Item item) text → slice_index_or text 13 0 ≡ 5
+pub item_class_at : (item : Item) (text : List ℕ) → IsLinkText (messages.Item item) text → slice_index_or text 13 0 ≡ 5
 unfolding be2 be4 contents field_text link_message_of
 item_class_at item text spelled = ap (λ (bytes : List ℕ). slice_index_or bytes 13 0) spelled.spelled
 

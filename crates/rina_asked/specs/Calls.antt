@@ -1,10 +1,11 @@
 -- What is kept of the messages about flows of a DIF by each of its calls, and what it is for.
-use Rattle.std.specs.Prelude.{◌+◌, ◌≤◌, ◌≡◌, ◌↔◌, ℕ, true, false, List, slice_get, Option, Some, Result, Err, OnErr}
+use Rattle.std.specs.Prelude.{◌+◌, ◌^◌, ◌<◌, ◌≤◌, ◌≡◌, ◌↔◌, ℕ, true, false, List, slice_get, Option, Some, Result, Err, OnErr}
 use Rattle.rina_base.specs.declared.number.FlowName.{FlowName}
 use Rattle.rina_base.specs.declared.number.Num.{Num}
 use Rattle.rina_base.specs.declared.number.Port.{Port}
 use Rattle.rina_agent.specs.declared.message.ManagementMessage.{ManagementMessage}
 use Rattle.rina_agent.specs.declared.message.ManagementMessage.TheVariants.{ToMember}
+use Rattle.rina_alloc.specs.declared.answer.FlowAnswer.{FlowAnswer}
 use Rattle.rina_alloc.specs.declared.answer.FlowAnswer.TheVariants as answers
 use Rattle.rina_alloc.specs.declared.message.FlowAsk.{FlowAsk}
 use Rattle.rina_alloc.specs.declared.message.FlowMessage.{FlowMessage}
@@ -40,7 +41,7 @@ use Rattle.rina_dif.specs.Binding.{BindsTo}
 use Rattle.rina_dif.specs.Changing.{BindsManaged}
 use Rattle.rina_dif.specs.Clocking.{ClockSteps}
 use Rattle.rina_dif.specs.Enrolling.{EnrolsAs}
-use Rattle.rina_dif.specs.Facade.{GoesOn, PassesAt}
+use Rattle.rina_dif.specs.Facade.{GoesOn, NotesMemory, PassesAt}
 use Rattle.rina_dif.specs.FarMaking.{HasFar, IsAskerOf}
 use Rattle.rina_dif.specs.FlowAnswers.{IsFarEndAt}
 use Rattle.rina_dif.specs.FlowEnds.{FreesManaged}
@@ -53,10 +54,12 @@ use Rattle.rina_dif.specs.Registering.{RegistersManaged, UnregistersManaged}
 use Rattle.rina_dif.specs.Requesting.{AsksTo, RequestsAs}
 use Rattle.rina_dif.specs.Sending.{SendsAt}
 use Rattle.rina_dif.specs.Taking.{TakesHome}
+use Rattle.rina_dif.specs.WaitingAsks.{FreesAsks}
 use Rattle.rina_dif.specs.Whole.{IsDif}
 use Rattle.rina_asked.specs.Alone.{AreAlone, IsName, all_on_links, all_waiting, asks, one, text_asks}
 use Rattle.rina_asked.specs.Ends.{HaveEnds}
 use Rattle.rina_asked.specs.Messages.{IsMessage}
+use Rattle.rina_asked.specs.Single.{AreSingle, AskId, IsAskId, belongs, text_belongs}
 
 -- What it is for: the look of a member that an ask comes to finds the asker's end, where the flow has no far end yet
 abbrev pub AskersAreFound : Type 0
@@ -78,6 +81,17 @@ AsksAreOne = (d : Dif) (lines : List Direction) (below : Seen) → Holds d lines
 abbrev pub AsksFind : Type 0
 AsksFind = (d : Dif) (lines : List Direction) (below : Seen) (m : FlowMessage) (invoke : ℕ) (ask : FlowAsk) → Holds d lines below → HaveEnds d → AreAlone d → IsMessage d m → m.word ≡ words.Ask invoke ask → (place : ℕ) × IsAskerOf d place m.to m.from ask
 
+-- a message is counted as one of an ask exactly where it is the ask or the answer, and a text as its message
+abbrev pub MessagesAreCounted : Type 0
+MessagesAreCounted = (k : AskId) → IsAskId k
+    → ((to from invoke : ℕ) (ask : FlowAsk) → invoke < 2 ^ 32 → from < 2 ^ 32 → belongs k (ToMember (record { to = to; from = from; word = words.Ask invoke ask })) ≡ true ↔ ((from ≡ k.addr) × (invoke ≡ k.invoke)))
+    × ((to from invoke : ℕ) (answer : FlowAnswer) → invoke < 2 ^ 32 → to < 2 ^ 32 → belongs k (ToMember (record { to = to; from = from; word = words.Answer invoke answer })) ≡ true ↔ ((to ≡ k.addr) × (invoke ≡ k.invoke)))
+    × ((x : ManagementMessage) (text : List ℕ) → IsSduOf x text → text_belongs k text ≡ belongs k x)
+
+-- of an ask one message at most is among the messages
+abbrev pub MessagesAreSingle : Type 0
+MessagesAreSingle = (d : Dif) (lines : List Direction) (below : Seen) → Holds d lines below → AreSingle d → (k : AskId) (links : ℕ) → IsAskId k → all_waiting (λ x. one (belongs k x)) d.managements + all_on_links (λ t. one (text_belongs k t)) d links ≤ 1
+
 -- From the start
 
 -- no message is there in a DIF of a plan as it was made
@@ -89,11 +103,6 @@ NewAre P = (plan : Plan) (i : ℕ) (dif : DifPlan) (d : Dif) (old new : Seen) �
 -- it keeps what holds of a DIF, unless an allocation failed in it or before
 abbrev pub Stays : (Dif → Type 0) → Dif → Dif → Type 0
 Stays P d d' = (d.failed ≡ false → P d) → d'.failed ≡ false → P d'
-
--- a call that answers this notes whether memory was missing, and where it was missing before that is the answer
-pub record NotesMemory {T : Type 0} (d d' : Dif) (result missing : T) : Type 0 where
-  pub failed : d.failed ≡ true → result ≡ missing
-  pub fails : d'.failed ≡ true ↔ (result ≡ missing)
 
 -- a flow is asked for
 abbrev pub AllocateKeeps : (Dif → Type 0) → Type 0
@@ -121,6 +130,11 @@ PassKeeps P = (d d' : Dif) (port : Port) → IsDif d → ((lines : List Directio
 abbrev pub FreeKeeps : (Dif → Type 0) → Type 0
 FreeKeeps P = (d d' : Dif) (port : Port) (result : Result (Unit {0}) FreeError) → IsDif d → ((lines : List Direction) (below : Seen) → Holds d lines below → FreesAt (place_in port d.flows.journal.ends) d lines below result d') → FreesManaged (place_in port d.flows.journal.ends) result d d'.managements → GoesOn d d'
     → d' ≡ record d { processes = d'.processes; managements = d'.managements; flows = d'.flows; ids = d'.ids; asks = d'.asks; failed = d'.failed } → NotesMemory d d' result (Err free.Memory) → Stays P d d'
+
+-- so it is where its ask waits no more, as the contract says too
+abbrev pub FreeAsksKeeps : (Dif → Type 0) → Type 0
+FreeAsksKeeps P = (d d' : Dif) (port : Port) (result : Result (Unit {0}) FreeError) → IsDif d → ((lines : List Direction) (below : Seen) → Holds d lines below → FreesAt (place_in port d.flows.journal.ends) d lines below result d') → FreesManaged (place_in port d.flows.journal.ends) result d d'.managements → GoesOn d d'
+    → d' ≡ record d { processes = d'.processes; managements = d'.managements; flows = d'.flows; ids = d'.ids; asks = d'.asks; failed = d'.failed } → FreesAsks (place_in port d.flows.journal.ends) result d d'.asks.items → NotesMemory d d' result (Err free.Memory) → Stays P d d'
 
 -- a name is registered, and taken back
 abbrev pub RegisterKeeps : (Dif → Type 0) → Type 0

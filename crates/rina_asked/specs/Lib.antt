@@ -2,4 +2,8 @@ pub mod Ends
 pub mod Calls
 pub mod Messages
 pub mod Alone
+pub mod Single
+pub mod Awaited
 pub mod Finding
+pub mod Doing
+pub mod Late

@@ -2,13 +2,13 @@
 use Rattle.std.specs.Prelude.{◌≡◌, ◌⊎◌, ℕ, List, Contains, drop, length, slice_get, Some}
 use Rattle.rina_agent.specs.declared.message.Waiting.{Waiting}
 use Rattle.rina_alloc.specs.declared.message.FlowMessage.{FlowMessage}
-use Rattle.rina_alloc.specs.Messages.{IsInRange, IsProper, IsSpelled}
 use Rattle.rina_flood.specs.Network.{Side, other}
 use Rattle.rina_flood.specs.Static.{end_place}
 use Rattle.rina_member.specs.declared.management.Management.{Management}
 use Rattle.rina_member.specs.Managements.{IsSduOf}
 use Rattle.rina_dif.specs.declared.dif.Dif.{Dif}
 use Rattle.rina_dif.specs.Flooding.{members_seen}
+use Rattle.rina_dif.specs.FlowMessages.{IsTextOf}
 
 -- the texts that one end of a link offered, and that are not handled at its other end
 abbrev pub on_link : Dif → ℕ → Side → List (List ℕ)
@@ -31,12 +31,6 @@ pub record Waits (d : Dif) (text : List ℕ) : Type 0 where
 -- the text is on its way
 abbrev pub IsOnWay : Dif → List ℕ → Type 0
 IsOnWay d text = Waits d text ⊎ IsOnLink d text
-
--- it is that of a message about a flow. A text is that of one such message at most
-pub record IsTextOf (m : FlowMessage) (text : List ℕ) : Type 0 where
-  pub in_range : IsInRange m
-  pub proper : IsProper m.word
-  pub spelled : IsSpelled m text
 
 -- the message is among those of a DIF
 pub record IsMessage (d : Dif) (m : FlowMessage) : Type 0 where

@@ -1,7 +1,5 @@
 //! Promises of cubes, and the cube that a wish gets.
 use rina_cube::{Cube, Kind, Want, pick};
-use std::process::Abort;
-use std::test::*;
 
 const DATAGRAM: Cube = Cube {
     id: 1,
@@ -38,29 +36,45 @@ const RELIABLE: Cube = Cube {
 
 #[test]
 fn a_reliable_cube_has_time_to_send_again(rt: HostRuntime) {
-    assert!(rt; LOOSE.promise() == 40 && LOOSE.delta() == 40);
-    assert!(rt; RELIABLE.promise() == 70 && RELIABLE.delta() == 72);
+    assert!(rt;
+        LOOSE.promise() == 40
+            && LOOSE.delta() == 40
+            && RELIABLE.promise() == 70
+            && RELIABLE.delta() == 72
+    );
 }
 
-/// A wish for a flow within some ticks, for SDUs of a size in bytes, gets a cube of the three, or none.
-fn gets(rt: &impl Abort, ordered: bool, reliable: bool, within: u32, size: u32, id: Option<u8>) {
-    let want = Want {
-        ordered,
-        reliable,
-        within,
-        size,
-    };
-    assert!(rt; pick(&[DATAGRAM, LOOSE, RELIABLE], &want) == id);
+/// A wish for a flow: ordered, reliable, within some ticks, for SDUs of a size in bytes. It gets a cube of the three, or none.
+type Wish = (bool, bool, u32, u32, Option<u8>);
+
+static WISHES: [Wish; 8] = [
+    (false, false, u32::MAX, 0, Some(1)),
+    (true, false, u32::MAX, 0, Some(2)),
+    (false, true, u32::MAX, 0, Some(3)),
+    (false, false, 40, 81, Some(2)),
+    (false, true, 70, 240, Some(3)),
+    (false, true, 69, 0, None),
+    (false, false, 39, 0, None),
+    (false, false, 40, 241, None),
+];
+
+/// Whether each wish gets its cube.
+fn all_get_theirs() -> bool {
+    for (ordered, reliable, within, size, id) in &WISHES {
+        let want = Want {
+            ordered: *ordered,
+            reliable: *reliable,
+            within: *within,
+            size: *size,
+        };
+        if pick(&[DATAGRAM, LOOSE, RELIABLE], &want) != *id {
+            return false;
+        }
+    }
+    true
 }
 
 #[test]
 fn the_first_cube_that_meets_a_wish_is_picked(rt: HostRuntime) {
-    gets(&rt, false, false, u32::MAX, 0, Some(1));
-    gets(&rt, true, false, u32::MAX, 0, Some(2));
-    gets(&rt, false, true, u32::MAX, 0, Some(3));
-    gets(&rt, false, false, 40, 81, Some(2));
-    gets(&rt, false, true, 70, 240, Some(3));
-    gets(&rt, false, true, 69, 0, None);
-    gets(&rt, false, false, 39, 0, None);
-    gets(&rt, false, false, 40, 241, None);
+    assert!(rt; all_get_theirs());
 }

@@ -114,13 +114,8 @@ fn goes(alloc: Global, acknowledged: bool) -> bool {
 }
 
 #[test]
-fn a_piece_is_made_again_and_given_up(rt: HostRuntime) {
-    assert!(rt; goes(rt.alloc(), false));
-}
-
-#[test]
-fn an_acknowledgement_opens_the_window(rt: HostRuntime) {
-    assert!(rt; goes(rt.alloc(), true));
+fn a_piece_is_made_again_and_given_up_or_acknowledged(rt: HostRuntime) {
+    assert!(rt; goes(rt.alloc(), false) && goes(rt.alloc(), true));
 }
 
 /// Whether an acknowledgement is made two ticks after the first piece that it is for.

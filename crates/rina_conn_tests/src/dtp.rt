@@ -184,11 +184,6 @@ fn goes(alloc: Global, cube: &Cube) -> bool
 }
 
 #[test]
-fn a_lost_piece_breaks_its_sdu(rt: HostRuntime) {
-    assert!(rt; goes(rt.alloc(), &LOOSE));
-}
-
-#[test]
-fn a_reliable_flow_begins_with_the_flag_and_has_no_gap(rt: HostRuntime) {
-    assert!(rt; goes(rt.alloc(), &RELIABLE));
+fn a_lost_piece_breaks_its_sdu_and_a_reliable_flow_has_no_gap(rt: HostRuntime) {
+    assert!(rt; goes(rt.alloc(), &LOOSE) && goes(rt.alloc(), &RELIABLE));
 }

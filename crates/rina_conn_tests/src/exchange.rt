@@ -331,12 +331,19 @@ impl Ends {
     }
 }
 
-/// Goes through exchanges, and tells the place of the first step that does not go as it is to.
-pub fn first_difference(alloc: Global, steps: &[Step]) -> Result<Option<usize>, Memory> {
-    let mut ends = Ends {
+/// The two ends of a connection on a datagram cube.
+fn new_ends(alloc: Global) -> Result<Ends, Memory> {
+    Ok(Ends {
         near: conn(alloc, Kind::Datagram, NEAR)?,
         far: conn(alloc, Kind::Datagram, FAR)?,
         made: Vec::new(alloc),
-    };
-    Ok(ends.first_difference(alloc, steps))
+    })
+}
+
+/// Goes through exchanges, and tells the place of the first step that does not go as it is to.
+pub fn first_difference(alloc: Global, steps: &[Step]) -> Option<usize> {
+    match new_ends(alloc) {
+        Ok(mut ends) => ends.first_difference(alloc, steps),
+        Err(Memory) => Some(0),
+    }
 }

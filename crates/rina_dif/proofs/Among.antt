@@ -1,9 +1,12 @@
 -- At which of the links of an IPC process a management message is due.
-use Rattle.std.proofs.Common.{◌≡◌, ◌∙◌, ℕ, ◌+◌, ◌<◌, ◌≤◌, ◌⊎◌, true, false, List, length, slice_get, Option, Some, None, Result, Ok, Err, refl, sym, ap, subst, arith, inl, inr}
-use Rattle.std.proofs.lemmas.Bool.{cases_lt}
+use Rattle.std.proofs.Common.{◌≡◌, ◌∙◌, ◌↔◌, ℕ, ◌+◌, ◌<◌, ◌≤◌, ◌⊎◌, Bool, IsTrue, true, false, ltb-true, lt-ltb, nat_lt, List, [], ◌∷◌, length, slice_get, Option, Some, None, Result, Ok, Err, refl, sym, ap, subst, arith, inl, inr}
+use Rattle.std.proofs.lemmas.Bool.{cases_lt, false≢true}
 use Rattle.rina_base.specs.declared.memory.Memory.{Memory}
 use Rattle.rina_iface.specs.Seen.{Seen}
 use Rattle.rina_law.specs.Direction.{Direction}
+use Rattle.rina_agent.specs.declared.message.Waiting.{Waiting}
+use Rattle.rina_agent.specs.Agenda.{first_on}
+use Rattle.rina_member.specs.declared.management.Management.{Management}
 use Rattle.rina_data.specs.declared.process.IpcProcess.{IpcProcess}
 use Rattle.rina_data.specs.Deciding.{process_of}
 use Rattle.rina_data.specs.Process.{Process}
@@ -64,6 +67,24 @@ none_here d d' d'' lines below i n h before offers =
   where
     none_of : (d d' : Dif) (lines : List Direction) (below : Seen) (i n : ℕ) → d' ≡ d → ((lines : List Direction) → Holds d' lines below → OffersAt d' lines below i n (Ok false) d'') → Holds d lines below → (links : LinksStand d below) (place : ℕ) → IsMessageDue d below links.lines i place n → ⊥
     none_of d d' lines below i n same offers h = subst (λ (z : Dif). (links : LinksStand z below) (place : ℕ) → IsMessageDue z below links.lines i place n → ⊥) same (offers lines (subst (λ (z : Dif). Holds z lines below) (sym same) h)).0
+
+-- Where no message waits
+
+-- whether one does is told by how many do
+pub waits_told : (d : Dif) (i : ℕ) (m : Management) (count : ℕ) → slice_get d.managements i ≡ Some m → count ≡ length m.agent.agenda → (g : Management) → slice_get d.managements i ≡ Some g → IsTrue (nat_lt 0 count) ↔ (0 < length g.agent.agenda)
+waits_told d i m count is counts g its =
+    let same : length m.agent.agenda ≡ length g.agent.agenda = ap (λ (z : Management). length z.agent.agenda) (same_some (slice_get d.managements i) m g is its) in
+    (λ e. (let lt = ltb-true 0 count e in omega (arith, lt, counts, same)), λ lt. lt-ltb 0 count (omega (arith, lt, counts, same)))
+
+some_waits : (number : ℕ) (agenda : List Waiting) (w : Waiting) → first_on number agenda ≡ Some w → 0 < length agenda
+some_waits number [] w is = absurd cc
+some_waits number (x ∷ agenda) w is = omega arith
+
+-- none waits at the member, so none is due at its links
+pub none_waits : (d : Dif) (below : Seen) (links : List Direction) (i place number : ℕ) (told : Bool) → ((m : Management) → slice_get d.managements i ≡ Some m → IsTrue told ↔ (0 < length m.agent.agenda)) → told ≡ false → IsMessageDue d below links i place number → ⊥
+none_waits d below links i place number told tells silent due =
+    let f = due.first in
+    false≢true (sym silent ∙ (tells f.management f.is_management).1 (some_waits number f.management.agent.agenda f.waiting f.first))
 
 -- The answer
 

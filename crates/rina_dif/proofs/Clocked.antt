@@ -220,6 +220,36 @@ among_all item d node n places (Some turn) none all f lines below h =
       ];
     }
 
+-- Nothing is due
+
+-- at the end of a place
+abbrev pub IsQuietAt : Dif → ℕ → ℕ → Type 0
+IsQuietAt d node at = (item : Item) (lines : List Direction) (below : Seen) → Holds d lines below → IsDueAt item d lines node at → ⊥
+
+not_due : (item : Item) (d : Dif) (node at : ℕ) (told : Bool) → Tests item d node at told → told ≡ false → (lines : List Direction) (below : Seen) → Holds d lines below → IsDueAt item d lines node at → ⊥
+not_due item d node at told tests fails lines below h due = false≢true (sym fails ∙ (tests lines below h).1 due)
+
+-- a place that is out of range has none
+pub quiet_without : (d : Dif) (node at : ℕ) → length d.flows.conns ≤ at → IsQuietAt d node at
+quiet_without d node at le item lines below h due = not_due item d node at false (none_without item d node at le) refl lines below h due
+
+-- each item was looked at
+pub quiet_at : (d : Dif) (node at : ℕ) (a b c e : Bool) → Tests Gone d node at a → Tests GiveUp d node at b → Tests Ack d node at c → Tests Again d node at e → a ≡ false → b ≡ false → c ≡ false → e ≡ false → (item : Item) (lines : List Direction) (below : Seen) → Holds d lines below → IsDueAt item d lines node at → ⊥
+quiet_at d node at a b c e ta tb tc te na nb nc ne Gone lines below h due = not_due Gone d node at a ta na lines below h due
+quiet_at d node at a b c e ta tb tc te na nb nc ne GiveUp lines below h due = not_due GiveUp d node at b tb nb lines below h due
+quiet_at d node at a b c e ta tb tc te na nb nc ne Ack lines below h due = not_due Ack d node at c tc nc lines below h due
+quiet_at d node at a b c e ta tb tc te na nb nc ne Again lines below h due = not_due Again d node at e te ne lines below h due
+
+-- at the first n of these places
+abbrev pub QuietAmong : Dif → ℕ → List ℕ → ℕ → Type 0
+QuietAmong d node places n = (item : Item) → FoundAmong item d node places n None
+
+pub quiet_none : (d : Dif) (node : ℕ) (places : List ℕ) → QuietAmong d node places 0
+quiet_none d node places item = none_among item d node places
+
+pub quiet_next : (d : Dif) (node n place : ℕ) (places : List ℕ) → n < length places → place ≡ get_or places n 0 → QuietAmong d node places n → IsQuietAt d node place → QuietAmong d node places (n + 1)
+quiet_next d node n place places inside is f quiet item = among_not_here item d node n place places None false inside is (f item) (λ lines below h. (λ e. absurd (false≢true e), λ due. absurd (quiet item lines below h due))) refl
+
 -- The first item
 
 pub then_again : (d : Dif) (lines : List Direction) (node : ℕ) (turn : Turn) → FindsFirst Gone d lines node None → FindsFirst GiveUp d lines node None → FindsFirst Ack d lines node None → FindsFirst Again d lines node (Some turn) → IsTurn Again d lines node turn.place turn.cep
@@ -227,6 +257,15 @@ then_again d lines node turn gone give_up ack f = record { before = (gone, give_
 
 pub idle : (d : Dif) (lines : List Direction) (node : ℕ) → FindsFirst Gone d lines node None → FindsFirst GiveUp d lines node None → FindsFirst Ack d lines node None → FindsFirst Again d lines node None → IsIdle d lines node
 idle d lines node gone give_up ack again = record { gone = gone; give_up = give_up; ack = ack; again = again }
+
+-- all places were looked at beside which nothing is due
+pub quiet_all : (d : Dif) (node n : ℕ) (places : List ℕ) → NoneDueBeside d.clock places d.flows → n ≡ length places → QuietAmong d node places n → (lines : List Direction) (below : Seen) → Holds d lines below → IsIdle d lines node
+quiet_all d node n places none all f lines below h = record {
+  gone = among_all Gone d node n places None none all (f Gone) lines below h;
+  give_up = among_all GiveUp d node n places None none all (f GiveUp) lines below h;
+  ack = among_all Ack d node n places None none all (f Ack) lines below h;
+  again = among_all Again d node n places None none all (f Again) lines below h;
+}
 
 -- What it does
 

@@ -38,6 +38,7 @@ use Rattle.rina_dif.specs.FlowEnds.{ManagesStep}
 use Rattle.rina_dif.specs.Shown.{seen_of}
 use Rattle.rina_dif.specs.Steps.{AtHome}
 use Rattle.rina_dif.specs.Unlinking.{NoneLeft, links_without}
+use Rattle.rina_dif.specs.WaitingAsks.{KeepsStep}
 use Rattle.rina_dif.proofs.Cutting.{after_loss, failed_ends}
 
 same_some : {X : Type 0} (o : Option X) (a b : X) → o ≡ Some a → o ≡ Some b → a ≡ b
@@ -224,29 +225,35 @@ none_failed : (d' : Dif) (failed : Bool) (done : ClockStep) → d'.failed ≡ fa
 none_failed d' true done alive only = (let wants = only refl in absurd cc)
 none_failed d' false done alive only = ap (λ (b : Bool). record d' { failed = b }) alive
 
-steps_by : (d : Dif) (lines : List Direction) (below : Seen) (node i : ℕ) (r : Result ClockStep StepError) (d' : Dif) (below' : Seen) (failed : Bool) → d'.failed ≡ false → (failed ≡ true → r ≡ Err why.Memory) → home node (config_of d.settings).members ≡ Some i → StepsHere d lines below node r d' below' → ManagesStep r (home_of d node) d below node d'.managements → ClockSteps d lines below node r (record d' { failed = failed }) below'
-steps_by d lines below node i (Ok done) d' below' failed alive only here s managed = subst (λ (z : Dif). ClockSteps d lines below node (Ok done) z below') (none_failed d' failed done alive only) (record {
+-- and not where it wants a version count
+spent_failed : (d' : Dif) (failed : Bool) (r : Result ClockStep StepError) (need left : ℕ) → r ≡ Err (why.CountSpent need left) → d'.failed ≡ false → (failed ≡ true → r ≡ Err why.Memory) → d' ≡ record d' { failed = failed }
+spent_failed d' true r need left spent alive only = (let wants = sym spent ∙ only refl in absurd cc)
+spent_failed d' false r need left spent alive only = ap (λ (b : Bool). record d' { failed = b }) alive
+
+steps_by : (d : Dif) (lines : List Direction) (below : Seen) (node i : ℕ) (r : Result ClockStep StepError) (d' : Dif) (below' : Seen) (failed : Bool) → d'.failed ≡ false → (failed ≡ true → r ≡ Err why.Memory) → home node (config_of d.settings).members ≡ Some i → StepsHere d lines below node r d' below' → ManagesStep r (home_of d node) d below node d'.managements → KeepsStep r d node d' → ClockSteps d lines below node r (record d' { failed = failed }) below'
+steps_by d lines below node i (Ok done) d' below' failed alive only here s managed keeps = subst (λ (z : Dif). ClockSteps d lines below node (Ok done) z below') (none_failed d' failed done alive only) (record {
   lines' = s.lines';
   does = at_home (home node (config_of d.settings).members) i (λ n. StepsOk d lines below node (Ok done) d' s.lines' below') _ here s.does;
   managed = managed;
+  keeps = keeps;
   holds = s.holds;
 })
-steps_by d lines below node i (Err why.Memory) d' below' failed alive only here s managed = record { lines' = lines; does = (s.0, refl, s.2); managed = managed; holds = noted d' lines below' failed alive s.1 }
-steps_by d lines below node i (Err why.NoIpc) d' below' failed alive only here s managed = absurd s
-steps_by d lines below node i (Err why.NoLink) d' below' failed alive only here s managed = absurd s
-steps_by d lines below node i (Err (why.CountSpent need left)) d' below' failed alive only here s managed = record { lines' = lines; does = (s.0, s.1, refl, s.3); managed = managed; holds = noted d' lines below' failed alive s.2 }
+steps_by d lines below node i (Err why.Memory) d' below' failed alive only here s managed keeps = record { lines' = lines; does = (s.0, refl, s.2); managed = managed; keeps = keeps; holds = noted d' lines below' failed alive s.1 }
+steps_by d lines below node i (Err why.NoIpc) d' below' failed alive only here s managed keeps = absurd s
+steps_by d lines below node i (Err why.NoLink) d' below' failed alive only here s managed keeps = absurd s
+steps_by d lines below node i (Err (why.CountSpent need left)) d' below' failed alive only here s managed keeps = record { lines' = lines; does = (s.0, s.1, refl, s.3); managed = managed; keeps = sym (spent_failed d' failed (Err (why.CountSpent need left)) need left refl alive only) ∙ keeps; holds = noted d' lines below' failed alive s.2 }
 
-pub steps_home : (d : Dif) (lines : List Direction) (below : Seen) (node i : ℕ) (r r' : Result ClockStep StepError) (d' : Dif) (below' : Seen) (failed : Bool) → d'.failed ≡ false → (failed ≡ true → r ≡ Err why.Memory) → home node (config_of d.settings).members ≡ Some i → r' ≡ r → StepsHere d lines below node r d' below' → ManagesStep r (Some i) d below node d'.managements → ClockSteps d lines below node r' (record d' { failed = failed }) below'
-steps_home d lines below node i r r' d' below' failed alive only here same s managed =
+pub steps_home : (d : Dif) (lines : List Direction) (below : Seen) (node i : ℕ) (r r' : Result ClockStep StepError) (d' : Dif) (below' : Seen) (failed : Bool) → d'.failed ≡ false → (failed ≡ true → r ≡ Err why.Memory) → home node (config_of d.settings).members ≡ Some i → r' ≡ r → StepsHere d lines below node r d' below' → ManagesStep r (Some i) d below node d'.managements → KeepsStep r d node d' → ClockSteps d lines below node r' (record d' { failed = failed }) below'
+steps_home d lines below node i r r' d' below' failed alive only here same s managed keeps =
     let there : ManagesStep r (home_of d node) d below node d'.managements = subst (λ (o : Option ℕ). ManagesStep r o d below node d'.managements) (sym here) managed in
-    subst (λ (v : Result ClockStep StepError). ClockSteps d lines below node v (record d' { failed = failed }) below') (sym same) (steps_by d lines below node i r d' below' failed alive only here s there)
+    subst (λ (v : Result ClockStep StepError). ClockSteps d lines below node v (record d' { failed = failed }) below') (sym same) (steps_by d lines below node i r d' below' failed alive only here s there keeps)
 
 none_managed : (d : Dif) (below : Seen) (node : ℕ) (o : Option ℕ) → ManagesStep (Err why.Memory) o d below node d.managements
 none_managed d below node (Some at) = inl refl
 none_managed d below node None = refl
 
 pub steps_none : (d : Dif) (lines : List Direction) (below : Seen) (node : ℕ) → Holds d lines below → ClockSteps d lines below node (Err why.Memory) d below
-steps_none d lines below node h = record { lines' = lines; does = (refl, refl, inl refl); managed = none_managed d below node (home_of d node); holds = h }
+steps_none d lines below node h = record { lines' = lines; does = (refl, refl, inl refl); managed = none_managed d below node (home_of d node); keeps = refl; holds = h }
 
 pub steps_nowhere : (d : Dif) (lines : List Direction) (below : Seen) (node : ℕ) → home node (config_of d.settings).members ≡ None → Holds d lines below → ClockSteps d lines below node (Err why.NoIpc) d below
-steps_nowhere d lines below node none h = record { lines' = lines; does = not_home (home node (config_of d.settings).members) (λ i. StepsOk d lines below node (Err why.NoIpc) d lines below) _ none (refl, refl, refl, refl); managed = refl; holds = h }
+steps_nowhere d lines below node none h = record { lines' = lines; does = not_home (home node (config_of d.settings).members) (λ i. StepsOk d lines below node (Err why.NoIpc) d lines below) _ none (refl, refl, refl, refl); managed = refl; keeps = refl; holds = h }

@@ -23,7 +23,7 @@ one_added sdu read old new is same = (read_before read [], (read, [], is, refl, 
 
 -- what is read of no message is none
 pub none_read : (sdu : List ℕ) → ((m : FlowMessage) → IsInRange m → IsProper m.word → IsSpelled m sdu → None ≡ Some m) → IsReadAs sdu None
-none_read sdu only = λ m range proper spelled. (let wrong = only m range proper spelled in absurd cc)
+none_read sdu only = λ m is. (let wrong = only m is.in_range is.proper is.spelled in absurd cc)
 
 before_more : (read : Option FlowMessage) (ms ns : List FlowMessage) → read_before read ms ++ ns ≡ read_before read (ms ++ ns)
 before_more None ms ns = refl

@@ -6,6 +6,8 @@ use Rattle.std.proofs.lemmas.List.{length-map}
 use Rattle.std.proofs.lemmas.Option.{same_Some}
 use Rattle.rina_account.specs.declared.ledger.Off.{Off}
 use Rattle.rina_alloc.specs.declared.message.FlowMessage.{FlowMessage}
+use Rattle.rina_alloc.specs.declared.message.FlowWord.{FlowWord}
+use Rattle.rina_alloc.specs.declared.message.FlowWord.TheVariants as words
 use Rattle.rina_base.specs.declared.memory.Memory.{Memory}
 use Rattle.rina_base.specs.declared.number.Port.{Port}
 use Rattle.rina_iface.specs.declared.ends.End.{End}
@@ -40,7 +42,7 @@ use Rattle.rina_flows.specs.Tied.{ids_of}
 use Rattle.rina_flows.proofs.Elsewhere.{by_adding_one, by_becoming, by_both, by_more, by_set}
 use Rattle.rina_dif.specs.declared.dif.Dif.{Dif}
 use Rattle.rina_dif.specs.Elsewhere.{ChangesOnly, ChangesProcess, IsEndHere, home_of}
-use Rattle.rina_dif.specs.FlowMessages.{ChangesFlowParts, HandlesFlow, HandlesFlows, MayChangeFlow, PassesOn, TakesFlow, TakesFlows, TakesWord}
+use Rattle.rina_dif.specs.FlowMessages.{AsksWaitOn, ChangesFlowParts, HandlesFlow, HandlesFlows, MayChangeFlow, PassesOn, TakesFlow, TakesFlows, TakesWord}
 use Rattle.rina_dif.specs.Holding.{Holds}
 use Rattle.rina_dif.specs.Posting.{posts}
 use Rattle.rina_dif.specs.Routing.{MayReroute}
@@ -208,6 +210,12 @@ leaves_on d mid d' o silent settings h g =
       (λ i other. g.1.0 i other ∙ h.1.0 i other, g.1.1 ∙ h.1.1),
     )
 
+-- the asks stay as they are
+asks_wait_on : (word : FlowWord) (d d' : Dif) → d'.asks ≡ d.asks → AsksWaitOn word d d'
+asks_wait_on (words.Ask invoke ask) d d' same = same
+asks_wait_on (words.Answer invoke answer) d d' same = tt
+asks_wait_on (words.Delete dcep scep) d d' same = same
+
 -- one that is for another member waits for its next hop, or is dropped
 pub posted_on : (d : Dif) (lines : List Direction) (below : Seen) (i : ℕ) (m : FlowMessage) (r : Result (Unit {0}) Memory) (d' : Dif) → ((member : Member) → slice_get d.settings.members i ≡ Some member → m.to ≡ member.addr → ⊥) → Holds d' lines below → OnOk r (d' ≡ record d { managements = posts d i m d.managements }) → OnErr r (d' ≡ d) → TakesFlow d lines below i m r d'
 posted_on d lines below i m (Ok done) d' other h ok err = record {
@@ -217,6 +225,7 @@ posted_on d lines below i m (Ok done) d' other h ok err = record {
     rest = subst (ChangesFlowParts d) (sym ok) refl;
     on = λ member is other. ok;
     own = λ member is same. absurd (other member is same);
+    asks = asks_wait_on m.word d d' (ap (λ (z : Dif). z.asks) ok);
   };
   holds = h;
 }
@@ -227,6 +236,7 @@ posted_on d lines below i m (Err e) d' other h ok err = record {
     rest = subst (ChangesFlowParts d) (sym err) (parts_same d);
     on = λ member is other. err;
     own = λ member is same. absurd (other member is same);
+    asks = asks_wait_on m.word d d' (ap (λ (z : Dif). z.asks) err);
   };
   holds = h;
 }
@@ -244,7 +254,7 @@ never_on d i m (Err e) d' own = λ member is other. absurd (own member is other)
 pub own_taken : (d : Dif) (lines : List Direction) (below : Seen) (i : ℕ) (m : FlowMessage) (r : Result (Unit {0}) Memory) (d' : Dif) → ((member : Member) → slice_get d.settings.members i ≡ Some member → m.to ≢ member.addr → ⊥) → ChangesFlowParts d d' → TakesWord d lines below i m.from m.word r d' → TakesFlow d lines below i m r d'
 own_taken d lines below i m r d' own rest t = record {
   lines' = t.lines';
-  handles = record { flow = t.flow; rest = rest; on = never_on d i m r d' own; own = λ member is same. t.does };
+  handles = record { flow = t.flow; rest = rest; on = never_on d i m r d' own; own = λ member is same. t.does; asks = t.asks };
   holds = t.holds;
 }
 

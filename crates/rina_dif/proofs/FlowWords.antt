@@ -51,16 +51,16 @@ answered_by answers.NotHere d lines below i member from invoke ask d' h stands s
 answered_by (answers.NoIds used) d lines below i member from invoke ask d' h stands s = (lines, seen_same d d' lines i (ap seen_of s.only), s.holds)
 
 -- a member is asked for a flow
-pub ask_taken : (d : Dif) (lines : List Direction) (below : Seen) (i from invoke : ℕ) (ask : FlowAsk) (r : Result (Unit {0}) Memory) (d' : Dif) → Holds d lines below → HandlesAsk d lines below i from invoke ask r d' → TakesWord d lines below i from (words.Ask invoke ask) r d'
-ask_taken d lines below i from invoke ask (Ok done) d' h (inl a) =
+pub ask_taken : (d : Dif) (lines : List Direction) (below : Seen) (i from invoke : ℕ) (ask : FlowAsk) (r : Result (Unit {0}) Memory) (d' : Dif) → Holds d lines below → HandlesAsk d lines below i from invoke ask r d' → d'.asks ≡ d.asks → TakesWord d lines below i from (words.Ask invoke ask) r d'
+ask_taken d lines below i from invoke ask (Ok done) d' h (inl a) asks =
     let s = answered_by a.decides.answer d lines below i a.decides.member from invoke ask d' h a.decides.stands a.does in
-    record { lines' = s.0; flow = s.1; does = inl a; holds = s.2 }
-ask_taken d lines below i from invoke ask (Ok done) d' h (inr same) =
-    record { lines' = lines; flow = seen_same d d' lines i (ap seen_of same.1); does = inr same; holds = subst (λ (z : Dif). Holds z lines below) (sym same.1) h }
-ask_taken d lines below i from invoke ask (Err e) d' h (inl kept) = record { lines' = lines; flow = seen_same d d' lines i kept.same; does = inl kept; holds = kept.holds }
-ask_taken d lines below i from invoke ask (Err e) d' h (inr m) =
+    record { lines' = s.0; flow = s.1; does = inl a; asks = asks; holds = s.2 }
+ask_taken d lines below i from invoke ask (Ok done) d' h (inr same) asks =
+    record { lines' = lines; flow = seen_same d d' lines i (ap seen_of same.1); does = inr same; asks = asks; holds = subst (λ (z : Dif). Holds z lines below) (sym same.1) h }
+ask_taken d lines below i from invoke ask (Err e) d' h (inl kept) asks = record { lines' = lines; flow = seen_same d d' lines i kept.same; does = inl kept; asks = asks; holds = kept.holds }
+ask_taken d lines below i from invoke ask (Err e) d' h (inr m) asks =
     let made = m.2.made in
-    record { lines' = made.lines'; flow = made_here d lines below i m.2.place made.member d' made.lines' h made.stands made.makes; does = inr m; holds = made.holds }
+    record { lines' = made.lines'; flow = made_here d lines below i m.2.place made.member d' made.lines' h made.stands made.makes; does = inr m; asks = asks; holds = made.holds }
 
 -- the answer to an ask comes
 
@@ -94,9 +94,9 @@ away_same d lines below i from answer (Err e) d' m t = ap seen_of t.err
 pub answer_taken : (d : Dif) (lines : List Direction) (below : Seen) (i from invoke : ℕ) (answer : FlowAnswer) (r : Result (Unit {0}) Memory) (d' : Dif) → i < length d.settings.members → Holds d lines below → TakesAnswer d lines below i from invoke answer r d' → TakesWord d lines below i from (words.Answer invoke answer) r d'
 answer_taken d lines below i from invoke answer r d' lt h (inl s) =
     let f = answer_first d lines below i from invoke (dcep_of answer) (why_of answer) answer r d' h s s.takes in
-    record { lines' = lines; flow = f.0; does = inl s; holds = f.1 }
+    record { lines' = lines; flow = f.0; does = inl s; asks = tt; holds = f.1 }
 answer_taken d lines below i from invoke answer r d' lt h (inr s) =
-    record { lines' = lines; flow = seen_same d d' lines i (away_same d lines below i from answer r d' (there d.settings.members i lt) s.1); does = inr s; holds = s.1.holds }
+    record { lines' = lines; flow = seen_same d d' lines i (away_same d lines below i from answer r d' (there d.settings.members i lt) s.1); does = inr s; asks = tt; holds = s.1.holds }
 
 -- the other end gave the flow up
 
@@ -121,8 +121,8 @@ delete_by : (d : Dif) (lines : List Direction) (below : Seen) (i from dcep scep 
 delete_by d lines below i from dcep scep m r d' h is_m (inl s) = closed_up d lines below i from dcep scep m r d' h is_m s s.frees
 delete_by d lines below i from dcep scep m r d' h is_m (inr s) = (seen_same d d' lines i (ap seen_of s.1), subst (λ (z : Dif). Holds z lines below) (sym s.1) h)
 
-pub delete_taken : (d : Dif) (lines : List Direction) (below : Seen) (i from dcep scep : ℕ) (r : Result (Unit {0}) Memory) (d' : Dif) → i < length d.settings.members → Holds d lines below → TakesDelete d lines below i from dcep scep r d' → TakesWord d lines below i from (words.Delete dcep scep) r d'
-delete_taken d lines below i from dcep scep r d' lt h does =
+pub delete_taken : (d : Dif) (lines : List Direction) (below : Seen) (i from dcep scep : ℕ) (r : Result (Unit {0}) Memory) (d' : Dif) → i < length d.settings.members → Holds d lines below → TakesDelete d lines below i from dcep scep r d' → d'.asks ≡ d.asks → TakesWord d lines below i from (words.Delete dcep scep) r d'
+delete_taken d lines below i from dcep scep r d' lt h does asks =
     let m = there d.settings.members i lt in
     let f = delete_by d lines below i from dcep scep m.0 r d' h m.1 (does m.0 m.1) in
-    record { lines' = lines; flow = f.0; does = does; holds = f.1 }
+    record { lines' = lines; flow = f.0; does = does; asks = asks; holds = f.1 }

@@ -55,6 +55,7 @@ pub mod GivenUp
 pub mod Joining
 pub mod Keeping
 pub mod Kept
+pub mod KeptAsks
 pub mod KeptRoutes
 pub mod Laid
 pub mod Lapsed

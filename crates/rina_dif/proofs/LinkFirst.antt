@@ -245,6 +245,43 @@ among_all item d i n places (Some turn) none all f below links =
 pub no_link : (d : Dif) (links : List Direction) (i : ℕ) → NoLinkDue Gone d links i → NoLinkDue GiveUp d links i → NoLinkDue Ack d links i → NoLinkDue Again d links i → NoLinkUpTo Again d links i
 no_link d links i gone give_up ack again = ((gone, give_up, ack), again)
 
+-- Nothing is due
+
+-- at the end of a place
+abbrev pub IsQuietAt : Dif → ℕ → Type 0
+IsQuietAt d place = (item : Item) (i : ℕ) → Tells item d i place None
+
+pub quiet_without : (d : Dif) (place : ℕ) → length d.connections.flows.conns ≤ place → IsQuietAt d place
+quiet_without d place le item i = tells_no_conn item d i place le
+
+not_due : (item : Item) (d : Dif) (i place : ℕ) (told : Bool) → DueIn item d.clock place d.connections.flows told → told ≡ false → Tells item d i place None
+not_due item d i place told tells fails below links number due = false≢true (sym fails ∙ (tells _ links.lines due.here.end links.standing.journal links.tied due.here.is_end due.here.allocated).1 due.due)
+
+-- each item was looked at
+pub quiet_at : (d : Dif) (place : ℕ) (a b c e : Bool) → DueIn Gone d.clock place d.connections.flows a → DueIn GiveUp d.clock place d.connections.flows b → DueIn Ack d.clock place d.connections.flows c → DueIn Again d.clock place d.connections.flows e → a ≡ false → b ≡ false → c ≡ false → e ≡ false → (item : Item) (i : ℕ) → Tells item d i place None
+quiet_at d place a b c e ta tb tc te na nb nc ne Gone i = not_due Gone d i place a ta na
+quiet_at d place a b c e ta tb tc te na nb nc ne GiveUp i = not_due GiveUp d i place b tb nb
+quiet_at d place a b c e ta tb tc te na nb nc ne Ack i = not_due Ack d i place c tc nc
+quiet_at d place a b c e ta tb tc te na nb nc ne Again i = not_due Again d i place e te ne
+
+-- at the first n of these places
+abbrev pub QuietAmong : Dif → List ℕ → ℕ → Type 0
+QuietAmong d places n = (item : Item) (i : ℕ) → FoundOf item d i (Among places n) None
+
+pub quiet_none : (d : Dif) (places : List ℕ) → QuietAmong d places 0
+quiet_none d places item i = none_among item d i places
+
+pub quiet_next : (d : Dif) (n place : ℕ) (places : List ℕ) → n < length places → place ≡ get_or places n 0 → QuietAmong d places n → IsQuietAt d place → QuietAmong d places (n + 1)
+quiet_next d n place places lt is f quiet item i = among_not item d i n place places None lt is (f item i) (quiet item i)
+
+-- all places were looked at beside which nothing is due
+pub quiet_all : (d : Dif) (n : ℕ) (places : List ℕ) → NoneDueBeside d.clock places d.connections.flows → n ≡ length places → QuietAmong d places n → (i : ℕ) (below : Seen) (links : LinksStand d below) → NoLinkUpTo Again d links.lines i
+quiet_all d n places none all f i below links = no_link d links.lines i
+    (among_all Gone d i n places None none all (f Gone i) below links)
+    (among_all GiveUp d i n places None none all (f GiveUp i) below links)
+    (among_all Ack d i n places None none all (f Ack i) below links)
+    (among_all Again d i n places None none all (f Again i) below links)
+
 -- Links before flows
 
 before_rank : (a b : Item) (d : Dif) (lines : List Direction) (node : ℕ) → NoneBefore b d lines node → rank_of a < rank_of b → NoneDue a d lines node

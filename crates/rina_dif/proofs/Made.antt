@@ -189,8 +189,8 @@ new_process s node ports p up = record {
 one_plan : (x y : DifPlan) → Some x ≡ Some y → x ≡ y
 one_plan x y same = cc
 
-pub made_new : (plan : Plan) (i : ℕ) (dif : DifPlan) (d : Dif) (old new : Seen) → IsPlan plan → slice_get plan.difs i ≡ Some dif → d.settings ≡ settings_by plan i dif → d.clock ≡ old.now → d.failed ≡ false → d.flows.journal.ends ≡ [] → d.flows.conns ≡ [] → d.waiting.items ≡ [] → d.names ≡ [] → (ports : List (Port × Port)) (bare : List IpcProcess) → AreNamed d.settings.members → AreLaid plan dif d.settings dif.links old new ports bare → AreStarted dif.is_static d.settings.cubes d.settings.members dif.links dif.rules dif.allow (length d.settings.members) bare d.managements → AreRouted d.settings.members d.managements (length d.managements) bare d.processes → d.enrolled ≡ map (λ (m : Kept). m.node) (first_enrolled dif.is_static d.settings.members) → IsNew plan i d old new
-made_new plan i dif d old new sound at are clock alive ends conns waiting names ports bare named was started routed nodes =
+pub made_new : (plan : Plan) (i : ℕ) (dif : DifPlan) (d : Dif) (old new : Seen) → IsPlan plan → slice_get plan.difs i ≡ Some dif → d.settings ≡ settings_by plan i dif → d.clock ≡ old.now → d.failed ≡ false → d.flows.journal.ends ≡ [] → d.flows.conns ≡ [] → d.waiting.items ≡ [] → d.asks.items ≡ [] → d.names ≡ [] → (ports : List (Port × Port)) (bare : List IpcProcess) → AreNamed d.settings.members → AreLaid plan dif d.settings dif.links old new ports bare → AreStarted dif.is_static d.settings.cubes d.settings.members dif.links dif.rules dif.allow (length d.settings.members) bare d.managements → AreRouted d.settings.members d.managements (length d.managements) bare d.processes → d.enrolled ≡ map (λ (m : Kept). m.node) (first_enrolled dif.is_static d.settings.members) → IsNew plan i d old new
+made_new plan i dif d old new sound at are clock alive ends conns waiting asks names ports bare named was started routed nodes =
     let laid = laid_still plan dif d.settings dif.links old new ports d.managements (length d.managements) bare d.processes was routed in
     let config : IsConfig (config_of d.settings) = subst (λ (s : Settings). IsConfig (config_of s)) (sym are) (is_config plan i dif sound at) in
     let members : AreMembers (config_of d.settings) = subst (λ (s : Settings). AreMembers (config_of s)) (sym are) (are_members plan i dif sound at) in
@@ -214,6 +214,7 @@ made_new plan i dif d old new sound at are clock alive ends conns waiting names 
       ends = ends;
       conns = conns;
       waiting = waiting;
+      asks = asks;
       names = names;
     }
 

@@ -45,7 +45,7 @@ use Rattle.rina_dif.specs.LinkDue.{NoLinkDue}
 use Rattle.rina_dif.specs.MessageSteps.{NoMessageAt}
 use Rattle.rina_channel.specs.Names.{link_config}
 use Rattle.rina_dif.specs.Resting.{IsAtRest, RestsUntil}
-use Rattle.rina_dif.specs.WaitingAsks.{NoneLate}
+use Rattle.rina_dif.specs.WaitingAsks.{KeepsStep, NoneLate}
 use Rattle.rina_dif.specs.Shown.{seen_of}
 use Rattle.rina_dif.specs.Steps.{AsksAt, AsksHome, AtHome, OutsAt}
 use Rattle.rina_dif.specs.Taking.{AreBrought, Handles, InsAt, TakesHome, TakesLinks, TellsFlows, TellsNothing}
@@ -176,6 +176,8 @@ module _ (until : ℕ) (d : Dif) (below : Seen) (node n : ℕ) (rest : RestsUnti
       does = a.2 lines;
       links = λ links. no_links (home_of d node) links.lines a.0 a.1;
       managed = refl;
+      asks = refl;
+      held = h;
       handled = d;
       handles = none_handled (home_of d node) a.0 a.1;
       rerouted = inl refl;
@@ -252,14 +254,14 @@ module _ (until : ℕ) (d : Dif) (below : Seen) (node : ℕ) (before : d.clock <
   no_message = λ i here links place number due. none_first number due.first.management due.first.waiting (rest.messages i due.first.management due.first.is_management) due.first.first
 
   abbrev ClockAnswer : Type 0
-  ClockAnswer = (a : Result ClockStep StepError) × DoesNone a × ((lines : List Direction) → Holds d lines below → ClockStepsAt d lines below node a d lines below) × ManagesStep a (home_of d node) d below node d.managements
+  ClockAnswer = (a : Result ClockStep StepError) × DoesNone a × ((lines : List Direction) → Holds d lines below → ClockStepsAt d lines below node a d lines below) × ManagesStep a (home_of d node) d below node d.managements × KeepsStep a d node d
 
   clock_home : (h : Option ℕ) → home_of d node ≡ h → ClockAnswer
-  clock_home (Some i) is = (Ok clocks.Idle, tt, λ lines h. at_home (home_of d node) i _ _ is (none_lost, record { mid = below; none = inl (none_comes, refl); holds = h; serves = inl (inl (record { does = (is_idle lines h, refl, refl); same = refl; same_below = refl; first = λ k here links. ((no_link_due Gone k links, no_link_due GiveUp k links, no_link_due Ack k links), no_link_due Again k links); no_ask = none_late }), no_message) }), refl)
-  clock_home None is = (Err NoIpc, tt, λ lines h. not_home (home_of d node) _ _ is (refl, refl, refl, refl), refl)
+  clock_home (Some i) is = (Ok clocks.Idle, tt, λ lines h. at_home (home_of d node) i _ _ is (none_lost, record { mid = below; none = inl (none_comes, refl); holds = h; serves = inl (inl (record { does = (is_idle lines h, refl, refl); same = refl; same_below = refl; first = λ k here links. ((no_link_due Gone k links, no_link_due GiveUp k links, no_link_due Ack k links), no_link_due Again k links); no_ask = none_late }), no_message) }), refl, refl)
+  clock_home None is = (Err NoIpc, tt, λ lines h. not_home (home_of d node) _ _ is (refl, refl, refl, refl), refl, refl)
 
   pub clock_rests : (a : Result ClockStep StepError) × DoesNone a × ((lines : List Direction) → Holds d lines below → ClockSteps d lines below node a d below)
-  clock_rests = (let a = clock_home (home_of d node) refl in (a.0, a.1, λ lines h. record { lines' = lines; does = a.2 lines h; managed = a.3; holds = h }))
+  clock_rests = (let a = clock_home (home_of d node) refl in (a.0, a.1, λ lines h. record { lines' = lines; does = a.2 lines h; managed = a.3; keeps = a.4; holds = h }))
 
 -- no flow fails
 pub none_fails : (d : Dif) (lines : List Direction) (below : Seen) → FailsLate d lines below d

@@ -126,6 +126,8 @@ no_link d lines below at n p is none h = record {
   does = (record { process = process_of p; is_process = shown_at d at p is; none = none }, refl, refl, refl);
   links = λ links. refl;
   managed = refl;
+  asks = refl;
+  held = h;
   handled = d;
   handles = refl;
   rerouted = inl refl;
@@ -143,6 +145,8 @@ none_waits d lines below at n p link is is_link none h = record {
   does = (record { process = process_of p; link = link; is_process = shown_at d at p is; is_link = is_link; none = none }, refl, refl, refl);
   links = λ links. refl;
   managed = refl;
+  asks = refl;
+  held = h;
   handled = d;
   handles = refl;
   rerouted = inl refl;
@@ -152,8 +156,8 @@ none_waits d lines below at n p link is is_link none h = record {
   holds = h;
 }
 
-pub took_none : (d : Dif) (lines : List Direction) (below : Seen) (at n : ℕ) (d' : Dif) (e : StepError) (r : Result InStep StepError) → e ≡ Memory → r ≡ Err e → (seen_of d' ≡ seen_of d) × Holds d' lines below × (d'.connections ≡ d.connections) → d'.managements ≡ d.managements → TakesIn d lines below at n r d' below
-took_none d lines below at n d' e r is err same managed =
+pub took_none : (d : Dif) (lines : List Direction) (below : Seen) (at n : ℕ) (d' : Dif) (e : StepError) (r : Result InStep StepError) → e ≡ Memory → r ≡ Err e → (seen_of d' ≡ seen_of d) × Holds d' lines below × (d'.connections ≡ d.connections) → d'.managements ≡ d.managements → d'.asks ≡ d.asks → TakesIn d lines below at n r d' below
+took_none d lines below at n d' e r is err same managed asks =
     subst (λ (v : Result InStep StepError). TakesIn d lines below at n v d' below) (sym (err ∙ ap (λ (z : StepError). Err z) is)) (record {
       answer = Err Memory;
       between = lines;
@@ -161,6 +165,8 @@ took_none d lines below at n d' e r is err same managed =
       does = (same.0, refl, refl);
       links = λ links. same.2;
       managed = managed;
+      asks = asks;
+      held = same.1;
       handled = d';
       handles = refl;
       rerouted = inl refl;
@@ -250,9 +256,9 @@ handled_silent d lines below at n key end taken below' found mid h t handles =
 
 -- `mid` is the DIF behind the messages of neighbours, and those about flows come then
 pub took_and_handled : (d : Dif) (lines : List Direction) (below : Seen) (at n since : ℕ) (p : IpcProcess) (link : Link) (hop : Hop) (key : Key) (end : Took) (taken : Dif) (below' : Seen) (found : Option Handled) (mid : Dif) (ms : List FlowMessage) (stopped : Result (Unit {0}) NoMemory) (r : Result InStep StepError) (d' : Dif) → slice_get d.processes at ≡ Some p → link_by n p.links ≡ Some link → IsOldest (config_of d.settings) below link.port since hop
-    → HasTakenOne d lines below at n key end taken below' → MayBring d at n since link.port hop found → ((lines' : List Direction) (b : Seen) → Holds taken lines' b → HandlesAs taken lines' b at n found mid) → taken.managements ≡ d.managements
+    → HasTakenOne d lines below at n key end taken below' → MayBring d at n since link.port hop found → ((lines' : List Direction) (b : Seen) → Holds taken lines' b → HandlesAs taken lines' b at n found mid) → taken.managements ≡ d.managements → taken.asks ≡ d.asks
     → BringsFlows d since link.port hop ms → ((lines' : List Direction) (b : Seen) → Holds mid lines' b → TakesFlows mid lines' b at ms stopped d') → d'.failed ≡ mid.failed → EndsAs stopped (Ok (in_.Took key end)) r → TakesIn d lines below at n r d' below'
-took_and_handled d lines below at n since p link hop key end taken below' found mid ms stopped r d' is is_link oldest t ahead handles managed brings tells failed ends =
+took_and_handled d lines below at n since p link hop key end taken below' found mid ms stopped r d' is is_link oldest t ahead handles managed asks brings tells failed ends =
     let s = handles t.lines' below' t.holds in
     let stood = handled_stands at n found taken t.lines' below' mid t.holds s in
     let u = tells t.lines' below' stood in
@@ -263,6 +269,8 @@ took_and_handled d lines below at n since p link hop key end taken below' found 
       does = t.does;
       links = t.links;
       managed = managed;
+      asks = asks;
+      held = t.holds;
       handled = mid;
       handles = record { process = p; is_process = is; link = link; is_link = is_link; since = since; hop = hop; is_oldest = oldest; handles = handles_piece d at n since link.port hop found taken t.lines' below' mid ahead s };
       rerouted = handled_reroutes at n found taken t.lines' below' mid t.holds s;
@@ -287,6 +295,8 @@ lacks_counts d lines below at n since p link hop need left is is_link oldest lac
   does = (refl, refl, refl);
   links = λ links. refl;
   managed = refl;
+  asks = refl;
+  held = h;
   handled = d;
   handles = (record { process = p; is_process = is; link = link; is_link = is_link; since = since; hop = hop; is_oldest = oldest; lacks = lacks }, refl);
   rerouted = inl refl;
@@ -331,6 +341,8 @@ home_takes d lines below node n at r d' below' here t = record {
   does = ins_at (seen_of d) lines below node n at t.answer (seen_of t.taken) t.between below' here t.does;
   links = λ links. at_home (home node (config_of d.settings).members) at (λ i. TakesLinks d links.lines below i n t.answer t.taken) _ here (t.links links);
   managed = t.managed;
+  asks = t.asks;
+  held = t.held;
   handled = t.handled;
   handles = at_home (home node (config_of d.settings).members) at (λ i. Handles d below i n t.answer t.taken below' t.handled) _ here t.handles;
   rerouted = t.rerouted;
@@ -353,6 +365,8 @@ home_noted d lines below node n r d' failed below' alive t = record {
   does = t.does;
   links = t.links;
   managed = t.managed;
+  asks = t.asks;
+  held = t.held;
   handled = t.handled;
   handles = t.handles;
   rerouted = t.rerouted;
@@ -376,6 +390,8 @@ takes_none d lines below node n h = record {
   does = (refl, refl, refl);
   links = λ links. either_home (home node (config_of d.settings).members) (λ i. TakesLinks d links.lines below i n (Err Memory) d) _ (λ k. refl) refl;
   managed = refl;
+  asks = refl;
+  held = h;
   handled = d;
   handles = either_home (home node (config_of d.settings).members) (λ i. Handles d below i n (Err Memory) d below d) _ (λ k. refl) refl;
   rerouted = inl refl;
@@ -393,6 +409,8 @@ takes_nowhere d lines below node n none h = record {
   does = not_home (home node (config_of d.settings).members) (λ k. Ins (seen_of d) lines below k n (Err NoIpc) (seen_of d) lines below) _ none (refl, refl, refl, refl);
   links = λ links. not_home (home node (config_of d.settings).members) (λ i. TakesLinks d links.lines below i n (Err NoIpc) d) _ none refl;
   managed = refl;
+  asks = refl;
+  held = h;
   handled = d;
   handles = not_home (home node (config_of d.settings).members) (λ i. Handles d below i n (Err NoIpc) d below d) _ none refl;
   rerouted = inl refl;

@@ -35,13 +35,14 @@ pub record AreBare (settings : Settings) (processes : List IpcProcess) : Type 0 
   pub aligned : length processes ≡ length settings.members
   pub each : (i : ℕ) (p : IpcProcess) → slice_get processes i ≡ Some p → IsBare settings p
 
--- a DIF without links, their management connections, flows and names, where no member ever drew a CEP-id
+-- a DIF without links, their management connections, flows, asks for them and names, where no member ever drew a CEP-id
 pub record IsBareDif (d : Dif) : Type 0 where
   pub processes : AreBare d.settings d.processes
   pub ends : d.flows.journal.ends ≡ []
   pub ids : AreWidths d.settings.widths → AreUndrawn d.settings.widths.cep (length d.settings.members) d.ids
   pub conns : d.flows.conns ≡ []
   pub waiting : d.waiting.items ≡ []
+  pub asks : d.asks.items ≡ []
   pub names : d.names ≡ []
   pub channels : d.connections.channels ≡ []
   pub link_ends : d.connections.flows.journal.ends ≡ []

@@ -48,7 +48,7 @@ use Rattle.rina_dif.specs.MessageSteps.{IfIdle, NoMessageAt, SendsMessage}
 use Rattle.rina_dif.specs.Shown.{seen_of}
 use Rattle.rina_dif.specs.Steps.{AtHome}
 use Rattle.rina_dif.specs.Unlinking.{HasFailed, LacksCounts, LosesWith}
-use Rattle.rina_dif.specs.WaitingAsks.{IsFirstLate, NoneLate, TimesOut}
+use Rattle.rina_dif.specs.WaitingAsks.{IsFirstLate, KeepsStep, NoneLate, TimesOut}
 
 -- What is due at a node
 
@@ -353,6 +353,7 @@ pub record ClockSteps (d : Dif) (lines : List Direction) (below : Seen) (node : 
   pub lines' : List Direction
   pub does : ClockStepsAt d lines below node result d' lines' below'
   pub managed : ManagesStep result (home_of d node) d below node d'.managements
+  pub keeps : KeepsStep result d node d'
   pub holds : Holds d' lines' below'
 
 -- Why a flow fails

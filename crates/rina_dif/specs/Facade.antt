@@ -1,5 +1,5 @@
 -- A DIF as one facility of its rank.
-use Rattle.std.specs.Prelude.{◌≡◌, ℕ, ◌+◌, ◌-◌, ◌*◌, ◌/◌, ◌==◌, ◌&&◌, ◌||◌, Bool, true, nat_le, nat_lt, List, map, slice_get, Option, Some, None, option_and_then, if◌then◌else◌}
+use Rattle.std.specs.Prelude.{◌≡◌, ◌↔◌, ℕ, ◌+◌, ◌-◌, ◌*◌, ◌/◌, ◌==◌, ◌&&◌, ◌||◌, Bool, true, nat_le, nat_lt, List, map, slice_get, Option, Some, None, option_and_then, if◌then◌else◌}
 use Rattle.rina_account.specs.declared.ledger.Off.{Off}
 use Rattle.rina_agent.specs.declared.state.MemberState.{MemberState}
 use Rattle.rina_base.specs.declared.number.Port.{Port}
@@ -127,6 +127,11 @@ pub record GoesOn (d d' : Dif) : Type 0 where
 -- it stands wherever it stood
 abbrev pub StaysStanding : Dif → Dif → Type 0
 StaysStanding d d' = (below : Seen) → Stands d below → Stands d' below
+
+-- a call that answers this notes whether memory was missing, and where it was missing before that is the answer
+pub record NotesMemory {T : Type 0} (d d' : Dif) (result missing : T) : Type 0 where
+  pub failed : d.failed ≡ true → result ≡ missing
+  pub fails : d'.failed ≡ true ↔ (result ≡ missing)
 
 -- What a rank needs of each step
 

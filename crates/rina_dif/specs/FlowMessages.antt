@@ -28,10 +28,16 @@ use Rattle.rina_dif.specs.Shown.{seen_of}
 
 -- Which messages
 
--- these bytes are the message about a flow, or they are none
+-- these bytes are those of a message about a flow, whose numbers and names are those of their types. Bytes are those of one such message at most
+pub record IsTextOf (m : FlowMessage) (bytes : List ℕ) : Type 0 where
+  pub in_range : IsInRange m
+  pub proper : IsProper m.word
+  pub spelled : IsSpelled m bytes
+
+-- this is the message about a flow that bytes are, or they are none
 abbrev pub IsReadAs : List ℕ → Option FlowMessage → Type 0
-IsReadAs bytes (Some m) = IsSpelled m bytes
-IsReadAs bytes None = (m : FlowMessage) → IsInRange m → IsProper m.word → IsSpelled m bytes → ⊥
+IsReadAs bytes (Some m) = IsTextOf m bytes
+IsReadAs bytes None = (m : FlowMessage) → IsTextOf m bytes → ⊥
 
 -- what was read stands before others
 abbrev pub read_before : Option FlowMessage → List FlowMessage → List FlowMessage
@@ -103,12 +109,18 @@ HandlesWord d lines below i from (words.Ask invoke ask) result d' = HandlesAsk d
 HandlesWord d lines below i from (words.Answer invoke answer) result d' = TakesAnswer d lines below i from invoke answer result d'
 HandlesWord d lines below i from (words.Delete dcep scep) result d' = TakesDelete d lines below i from dcep scep result d'
 
+-- what waits for an answer goes on to wait; an answer alone, as it is handled, may end the waiting of the ask that it is for
+abbrev pub AsksWaitOn : FlowWord → Dif → Dif → Type 0
+AsksWaitOn (words.Answer invoke answer) d d' = Unit {0}
+AsksWaitOn word d d' = d'.asks ≡ d.asks
+
 -- what the member of place i does with one that came there
 pub record HandlesFlow (d : Dif) (lines : List Direction) (below : Seen) (i : ℕ) (message : FlowMessage) (result : Result (Unit {0}) NoMemory) (d' : Dif) (lines' : List Direction) : Type 0 where
   pub flow : MayChangeFlow (seen_of d) lines i (seen_of d') lines'
   pub rest : ChangesFlowParts d d'
   pub on : PassesOn d i message result d'
   pub own : (member : Member) → slice_get d.settings.members i ≡ Some member → message.to ≡ member.addr → HandlesWord d lines below i message.from message.word result d'
+  pub asks : AsksWaitOn message.word d d'
 
 -- with several, one after the other; the DIF holds after each. Without memory it stops at one of them
 abbrev pub HandlesFlows : Dif → List Direction → Seen → ℕ → List FlowMessage → Result (Unit {0}) NoMemory → Dif → List Direction → Type 0
@@ -134,4 +146,5 @@ pub record TakesWord (d : Dif) (lines : List Direction) (below : Seen) (i from :
   pub lines' : List Direction
   pub flow : MayChangeFlow (seen_of d) lines i (seen_of d') lines'
   pub does : HandlesWord d lines below i from word result d'
+  pub asks : AsksWaitOn word d d'
   pub holds : Holds d' lines' below

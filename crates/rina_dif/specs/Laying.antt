@@ -113,7 +113,7 @@ pub record HasQueuesOf (s : Settings) (p : IpcProcess) : Type 0 where
 
 -- the i-th DIF of the stack when it was made: the settings of the plan, its links bound below in stack order, the
 -- managements of its members as they start, the next hops over the links of the plan, the nodes of the members that are enrolled from the
--- start, and no flows and names
+-- start, and no flows, asks for them and names
 pub record IsNew (plan : Plan) (i : ℕ) (d : Dif) (old new : Seen) : Type 0 where
   pub settings : settings_of plan i ≡ Some d.settings
   pub clock : d.clock ≡ old.now
@@ -128,6 +128,7 @@ pub record IsNew (plan : Plan) (i : ℕ) (d : Dif) (old new : Seen) : Type 0 whe
   pub ends : d.flows.journal.ends ≡ []
   pub conns : d.flows.conns ≡ []
   pub waiting : d.waiting.items ≡ []
+  pub asks : d.asks.items ≡ []
   pub names : d.names ≡ []
 
 -- One link more

@@ -326,8 +326,8 @@ abbrev pub TellsNothing : Result InStep StepError → Dif → List Direction →
 TellsNothing answer handled between result d' lines' = (result ≡ answer) × (record d' { failed = handled.failed } ≡ handled) × (lines' ≡ between)
 
 -- what `in_step` does at a link of the IPC process of place i: it takes an SDU, which answers something, makes the DIF `taken` of it and leaves
--- what the members hold; it handles the messages of neighbours that this made whole, for which of the flows only the next hops may be others
--- then; and as the DIF holds so, it handles the messages about flows
+-- what the members hold and which asks wait; as the DIF holds so, it handles the messages of neighbours that this made whole, for which of the
+-- flows only the next hops may be others then; and as the DIF holds so, it handles the messages about flows
 pub record TakesIn (d : Dif) (lines : List Direction) (below : Seen) (i n : ℕ) (result : Result InStep StepError) (d' : Dif) (below' : Seen) : Type 0 where
   pub answer : Result InStep StepError
   pub between : List Direction
@@ -335,6 +335,8 @@ pub record TakesIn (d : Dif) (lines : List Direction) (below : Seen) (i n : ℕ)
   pub does : Ins (seen_of d) lines below i n answer (seen_of taken) between below'
   pub links : (links : LinksStand d below) → TakesLinks d links.lines below i n answer taken
   pub managed : taken.managements ≡ d.managements
+  pub asks : taken.asks ≡ d.asks
+  pub held : Holds taken between below'
   pub handled : Dif
   pub handles : Handles d below i n answer taken below' handled
   pub rerouted : MayReroute (seen_of taken) (seen_of handled)
@@ -355,6 +357,8 @@ pub record TakesHome (d : Dif) (lines : List Direction) (below : Seen) (node n :
   pub does : InsAt (seen_of d) lines below node n answer (seen_of taken) between below'
   pub links : (links : LinksStand d below) → AtHome (home node (config_of d.settings).members) (λ i. TakesLinks d links.lines below i n answer taken) (taken.connections ≡ d.connections)
   pub managed : taken.managements ≡ d.managements
+  pub asks : taken.asks ≡ d.asks
+  pub held : Holds taken between below'
   pub handled : Dif
   pub handles : AtHome (home node (config_of d.settings).members) (λ i. Handles d below i n answer taken below' handled) (handled ≡ taken)
   pub rerouted : MayReroute (seen_of taken) (seen_of handled)

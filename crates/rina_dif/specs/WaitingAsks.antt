@@ -1,5 +1,5 @@
--- The asks for flows that wait for their answers: which of them are late, and what becomes of their ends.
-use Rattle.std.specs.Prelude.{◌≡◌, ℕ, ◌+◌, ◌<◌, ◌≤◌, ◌==◌, List, position, slice_get, Option, Some, None, Result, Ok}
+-- The asks for flows that wait for their answers: which of them are late, what becomes of their ends, and what a clock step keeps.
+use Rattle.std.specs.Prelude.{◌≡◌, ℕ, ◌+◌, ◌<◌, ◌≤◌, ◌==◌, List, position, slice_get, Option, Some, None, Result, Ok, Err}
 use Rattle.std.specs.List.{remove}
 use Rattle.rina_base.specs.declared.number.Port.{Port}
 use Rattle.rina_iface.specs.declared.ends.End.{End}
@@ -7,6 +7,10 @@ use Rattle.rina_iface.specs.declared.state.PortState.{PortState}
 use Rattle.rina_iface.specs.declared.state.PortState.TheVariants.{Pending, Refused}
 use Rattle.rina_iface.specs.declared.state.Why.TheVariants.{Timeout}
 use Rattle.rina_iface.specs.Journal.{At}
+use Rattle.rina_data.specs.declared.step.ClockStep.{ClockStep}
+use Rattle.rina_data.specs.declared.step.ClockStep.TheVariants as step
+use Rattle.rina_data.specs.declared.step.StepError.{StepError}
+use Rattle.rina_data.specs.declared.step.StepError.TheVariants.{Memory}
 use Rattle.rina_dif_law.specs.Answering.{IsTurnedDown}
 use Rattle.rina_dif.specs.declared.dif.Dif.{Dif}
 use Rattle.rina_dif.specs.declared.waiting_asks.WaitingAsk.{WaitingAsk}
@@ -79,3 +83,13 @@ asks_freed state place asks = asks
 abbrev pub FreesAsks : {E : Type 0} → Option ℕ → Result (Unit {0}) E → Dif → List WaitingAsk → Type 0
 FreesAsks (Some at) (Ok done) d new = (end : End) × (slice_get d.flows.journal.ends at ≡ Some end) × (new ≡ asks_freed end.state at d.asks.items)
 FreesAsks place result d new = new ≡ d.asks.items
+
+-- What a clock step keeps
+
+-- where it tells of an ask that has waited for its whole time, that one waits no more; else all that wait wait on. A step that is refused
+-- changes nothing at all, but where memory was not found
+abbrev pub KeepsStep : Result ClockStep StepError → Dif → ℕ → Dif → Type 0
+KeepsStep (Ok (step.Timeout port)) d node d' = TimesOut d node port d'
+KeepsStep (Ok done) d node d' = d'.asks ≡ d.asks
+KeepsStep (Err Memory) d node d' = d'.asks ≡ d.asks
+KeepsStep (Err other) d node d' = d' ≡ d

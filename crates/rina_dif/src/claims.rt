@@ -19,6 +19,7 @@ ghost use Rattle.rina_dif.specs.Enrolling.{is_full};
 ghost use Rattle.rina_dif.specs.Holding.{Holds, Stands};
 ghost use Rattle.rina_dif.specs.Lower.{ClaimsInTurn, ClaimsLower, ClocksBelow, name_of};
 ghost use Rattle.rina_dif.specs.Shown.{seen_of};
+ghost use Rattle.rina_dif.specs.WaitingAsks.{KeepsStep};
 
 use crate::dif::Dif;
 use crate::new_links::{is_full, least_number};
@@ -228,6 +229,7 @@ impl Dif {
         ensures whole { self.new ≡ record self.old { processes = self.new.processes; connections = self.new.connections; flows = self.new.flows; ids = self.new.ids; asks = self.new.asks; managements = self.new.managements } }
         ensures stays { OnErr result (self.new.connections ≡ self.old.connections) }
         ensures manages { ManagesStep result (Some at) self.old (F.seen below.old) node self.new.managements }
+        ensures keeps { KeepsStep result self.old node self.new }
         ensures leaves { ChangesOnly (MayClock result self.old (Some at)) (Some at) self.old self.new }
     {
         match self.claim_at(alloc, below, at, node)? {

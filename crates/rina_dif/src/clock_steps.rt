@@ -8,7 +8,7 @@ ghost use Rattle.rina_data.specs.Configs.{config_of};
 ghost use Rattle.rina_dif_law.specs.Sending.{home};
 ghost use Rattle.rina_dif_law.specs.Upward.{IsSilent};
 ghost use Rattle.rina_data.specs.declared.step.StepError.TheVariants.{Memory as MemoryWanted};
-ghost use Rattle.rina_dif.specs.Clocking.{ClockSteps, FailsLate, FindsAskFirst, FindsFirst, FindsLinkFirst, FindsNext, IsDueAt, IsHere, IsIn, NoFlowEnds, NoLinkEnds, ServesHere, StepsFlowHere, StepsHere, TellsEnding, earlier, item_of};
+ghost use Rattle.rina_dif.specs.Clocking.{ClockSteps, FailsLate, FindsAskFirst, FindsFirst, FindsLinkFirst, FindsNext, IsDueAt, IsHere, IsIdle, IsIn, NoFlowEnds, NoLinkEnds, ServesHere, StepsFlowHere, StepsHere, TellsEnding, earlier, item_of};
 ghost use Rattle.rina_dif.specs.Elsewhere.{ChangesOnly, ChangesProcess, MayClock, home_of};
 ghost use Rattle.rina_dif.specs.Facade.{GoesOn, OthersStand};
 ghost use Rattle.rina_dif.specs.Holding.{Holds, LinksStand, Stands};
@@ -18,6 +18,8 @@ ghost use Rattle.rina_dif.specs.Lower.{ClocksBelow, FreesBelow, FreesOver, name_
 ghost use Rattle.rina_dif.specs.FlowEnds.{ManagesStep};
 ghost use Rattle.rina_dif.specs.MessageSteps.{IfIdle};
 ghost use Rattle.rina_dif.specs.Shown.{seen_of};
+ghost use Rattle.rina_dif.specs.WaitingAsks.{KeepsStep};
+ghost use Rattle.rina_flows.specs.declared.due.Item.{Item};
 ghost use Rattle.rina_flows.specs.Watching.{NoneDueBeside};
 
 use crate::dif::Dif;
@@ -139,10 +141,53 @@ impl Dif {
         }
     }
 
+    /// Whether no item is due at the end of a place, if that end is allocated and at this node.
+    fn is_quiet_at(&self, node: Node, at: usize) -> bool
+        ensures { IsTrue result → (item : Item) (lines : List Direction) (below : Seen) → Holds self.now lines below → IsDueAt item self.now lines node at → ⊥ }
+    {
+        if at >= self.flows.conns.len() {
+            return true;
+        }
+        if self.is_due_at(node, at, Item::Gone)
+            || self.is_due_at(node, at, Item::GiveUp)
+            || self.is_due_at(node, at, Item::Ack)
+            || self.is_due_at(node, at, Item::Again)
+        {
+            return false;
+        }
+        true
+    }
+
+    /// Whether nothing is due at a node, where nothing is due beside these places.
+    fn are_quiet_at(&self, places: &[usize], node: Node) -> bool
+        requires { NoneDueBeside self.now.clock places.now self.now.flows }
+        ensures { IsTrue result → (lines : List Direction) (below : Seen) → Holds self.now lines below → IsIdle self.now lines node }
+    {
+        for place in 0..places.len() {
+            if !self.is_quiet_at(node, places[place]) {
+                return false;
+            }
+        }
+        true
+    }
+
+    /// Whether nothing is due at a node. False also where that is not known without a look at all ends.
+    fn are_quiet(&self, node: Node) -> bool
+        ensures { IsTrue result → (lines : List Direction) (below : Seen) → Holds self.now lines below → IsIdle self.now lines node }
+    {
+        match self.flows.watched(self.clock) {
+            Some(places) => self.are_quiet_at(places, node),
+            None => false,
+        }
+    }
+
     /// The first item that is due at a node. None exactly where none is.
     fn next_due(&self, node: Node) -> Option<Next>
         ensures { (lines : List Direction) (below : Seen) → Holds self.now lines below → FindsNext self.now lines node result }
     {
+        if self.are_quiet(node) {
+            return None;
+        }
         if let Some(turn) = self.first_due(node, Item::Gone) {
             let item = Item::Gone;
             return Some(Next { item, turn });
@@ -317,6 +362,7 @@ impl Dif {
         ensures idle { IfOk result (λ done. IfIdle done (self.new ≡ self.old)) }
         ensures stays { OnErr result (self.new.connections ≡ self.old.connections) }
         ensures manages { ManagesStep result (Some at) self.old (F.seen below.old) node self.new.managements }
+        ensures keeps { KeepsStep result self.old node self.new }
         ensures leaves { ChangesOnly (MayClock result self.old (Some at)) (Some at) self.old self.new }
     {
         if let Some(which) = self.first_ask(at, node) {
@@ -354,6 +400,7 @@ impl Dif {
         ensures whole { self.new ≡ record self.old { processes = self.new.processes; connections = self.new.connections; flows = self.new.flows; ids = self.new.ids; asks = self.new.asks; managements = self.new.managements } }
         ensures stays { OnErr result (self.new.connections ≡ self.old.connections) }
         ensures manages { ManagesStep result (Some at) self.old (F.seen below.old) node self.new.managements }
+        ensures keeps { KeepsStep result self.old node self.new }
         ensures leaves { ChangesOnly (MayClock result self.old (Some at)) (Some at) self.old self.new }
     {
         match self.lost_link_at(&*below, at) {

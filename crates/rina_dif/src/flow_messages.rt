@@ -1,6 +1,6 @@
 //! How the members of a DIF pass messages about flows on, hop by hop, and handle those that are for them.
 ghost use Rattle.std.specs.Prelude.{◌≡◌, ◌<◌, ◌≤◌, [], ◌∷◌, IfOk, List, OnErr, OnOk, Some, length, slice_get};
-ghost use Rattle.rina_alloc.specs.Messages.{IsProper};
+ghost use Rattle.rina_alloc.specs.Messages.{IsAskInRange, IsInRange, IsProper, IsWordInRange};
 ghost use Rattle.rina_base.specs.Pdus.{pdu_of};
 ghost use Rattle.rina_data.specs.declared.settings.Member.{Member};
 ghost use Rattle.rina_data.specs.Hops.{hop_of};
@@ -10,7 +10,7 @@ ghost use Rattle.rina_iface.specs.Seen.{Seen};
 ghost use Rattle.rina_law.specs.Direction.{Direction};
 ghost use Rattle.rina_dif.specs.Elsewhere.{ChangesOnly, IsEndHere};
 ghost use Rattle.rina_dif.specs.Flooding.{texts_of};
-ghost use Rattle.rina_dif.specs.FlowMessages.{AddsFlowMessages, BringsMessages, ChangesFlowParts, TakesFlow, TakesFlows, TakesWord};
+ghost use Rattle.rina_dif.specs.FlowMessages.{AddsFlowMessages, BringsMessages, ChangesFlowParts, IsReadAs, TakesFlow, TakesFlows, TakesWord};
 ghost use Rattle.rina_dif.specs.Holding.{Holds};
 ghost use Rattle.rina_dif.specs.Posting.{posts};
 ghost use Rattle.rina_dif.specs.Taking.{BringsFlows};
@@ -18,16 +18,75 @@ ghost use Rattle.rina_dif.specs.Whole.{IsDif};
 
 use crate::dif::Dif;
 use crate::in_step::Came;
-use rina_alloc::{FlowMessage, FlowWord, read};
+use rina_alloc::{FlowAsk, FlowMessage, FlowWord, read};
 use rina_base::{Addr, Bytes, Memory, PduView, Port};
 use rina_law::Entry;
 use std::alloc::Global;
+
+/// The names in an ask are names of applications.
+fn has_proper_names(word: &FlowWord)
+    ensures { IsProper word.now }
+{
+    if let FlowWord::Ask { ask, .. } = word {
+        let _ = (ask.destination.len(), ask.source.len());
+    }
+}
+
+/// The numbers of an ask are those of their types. Does nothing.
+fn ask_in_range(ask: &FlowAsk)
+    ensures { IsAskInRange ask.now }
+{
+    let _src = ask.flow.src;
+    let _tick = ask.flow.tick;
+    let _count = ask.flow.count;
+    let _cube = ask.cube;
+    let _scep = ask.scep;
+}
+
+/// The numbers of what a message says are those of their types. Does nothing.
+fn word_in_range(word: &FlowWord)
+    ensures { IsWordInRange word.now }
+{
+    match word {
+        FlowWord::Ask { invoke, ask } => {
+            let _invoke = *invoke;
+            ask_in_range(ask);
+        }
+        FlowWord::Answer { invoke, answer } => {
+            let _numbers = (*invoke, answer.dcep(), answer.number());
+        }
+        FlowWord::Delete { dcep, scep } => {
+            let _numbers = (*dcep, *scep);
+        }
+    }
+}
+
+/// The numbers of a message are those of their types. Does nothing.
+fn in_range(message: &FlowMessage)
+    ensures { IsInRange message.now }
+{
+    let _to = message.to;
+    let _from = message.from;
+    word_in_range(&message.word);
+}
+
+/// The message about a flow that bytes are. None exactly where they are none.
+fn read_message(alloc: Global, bytes: &[u8]) -> Result<Option<FlowMessage>, Memory>
+    ensures { IfOk result (IsReadAs bytes.now) }
+{
+    let Some(message) = read(alloc, bytes)? else {
+        return Ok(None);
+    };
+    in_range(&message);
+    has_proper_names(&message.word);
+    Ok(Some(message))
+}
 
 /// Adds the message about a flow that an SDU is, where it is one.
 fn add_message(alloc: Global, messages: &mut Vec<FlowMessage>, sdu: &[u8]) -> Result<(), Memory>
     ensures { OnOk result (AddsFlowMessages (sdu.now ∷ []) messages.old.items messages.new.items) }
 {
-    let Some(message) = read(alloc, sdu)? else {
+    let Some(message) = read_message(alloc, sdu)? else {
         return Ok(());
     };
     match messages.push(message) {
@@ -58,15 +117,6 @@ fn add_bodies(
         add_message(alloc, messages, body.as_slice())?;
     }
     Ok(())
-}
-
-/// The names in an ask are names of applications.
-fn has_proper_names(word: &FlowWord)
-    ensures { IsProper word.now }
-{
-    if let FlowWord::Ask { ask, .. } = word {
-        let _ = (ask.destination.len(), ask.source.len());
-    }
 }
 
 impl Dif {

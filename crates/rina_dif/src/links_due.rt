@@ -1,10 +1,12 @@
 //! What is due at the management connections of links.
-ghost use Rattle.std.specs.Prelude.{◌≡◌};
+ghost use Rattle.std.specs.Prelude.{◌≡◌, ℕ, IsTrue, None};
 ghost use Rattle.std.specs.List.{list_any};
+ghost use Rattle.rina_flows.specs.declared.due.Item.{Item};
+ghost use Rattle.rina_flows.specs.declared.due.Item.TheVariants.{Again};
 ghost use Rattle.rina_flows.specs.Watching.{NoneDueBeside};
 ghost use Rattle.rina_iface.specs.Seen.{Seen};
 ghost use Rattle.rina_dif.specs.Holding.{LinksStand};
-ghost use Rattle.rina_dif.specs.LinkDue.{FindsFirstLink, FindsNextLink, TellsLinkDue, is_link_of, lesser_link};
+ghost use Rattle.rina_dif.specs.LinkDue.{FindsFirstLink, FindsNextLink, NoLinkUpTo, TellsLinkDue, is_link_of, lesser_link};
 
 use crate::dif::Dif;
 use rina_channel::Attachment;
@@ -116,11 +118,56 @@ impl Dif {
         }
     }
 
+    /// Whether no item is due at the management connection of the end of a place.
+    fn is_link_quiet(&self, place: usize) -> bool
+        ensures { IsTrue result → (item : Item) (at : ℕ) (below : Seen) (links : LinksStand self.now below) → TellsLinkDue item self.now links.lines at place None }
+    {
+        let flows = &self.connections.flows;
+        if place >= flows.conns.len() {
+            return true;
+        }
+        let now = self.clock;
+        if flows.is_due(now, place, Item::Gone)
+            || flows.is_due(now, place, Item::GiveUp)
+            || flows.is_due(now, place, Item::Ack)
+            || flows.is_due(now, place, Item::Again)
+        {
+            return false;
+        }
+        true
+    }
+
+    /// Whether nothing is due at any management connection, where nothing is due beside these places.
+    fn are_links_quiet_at(&self, places: &[usize]) -> bool
+        requires { NoneDueBeside self.now.clock places.now self.now.connections.flows }
+        ensures { IsTrue result → (at : ℕ) (below : Seen) (links : LinksStand self.now below) → NoLinkUpTo Again self.now links.lines at }
+    {
+        for n in 0..places.len() {
+            if !self.is_link_quiet(places[n]) {
+                return false;
+            }
+        }
+        true
+    }
+
+    /// Whether nothing is due at any management connection. False also where that is not known without a look at all of them.
+    fn are_links_quiet(&self) -> bool
+        ensures { IsTrue result → (at : ℕ) (below : Seen) (links : LinksStand self.now below) → NoLinkUpTo Again self.now links.lines at }
+    {
+        match self.connections.flows.watched(self.clock) {
+            Some(places) => self.are_links_quiet_at(places),
+            None => false,
+        }
+    }
+
     /// The first item that is due at the management connections of the links of the IPC process at a place. None exactly where
     /// none is.
     pub(crate) fn next_link_due(&self, at: usize) -> Option<NextLink>
         ensures { (below : Seen) (links : LinksStand self.now below) → FindsNextLink self.now links.lines at result }
     {
+        if self.are_links_quiet() {
+            return None;
+        }
         if let Some(turn) = self.first_link_due(at, Item::Gone) {
             let item = Item::Gone;
             return Some(NextLink { item, turn });

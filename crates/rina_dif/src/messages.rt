@@ -7,6 +7,7 @@ ghost use Rattle.rina_law.specs.Direction.{Direction};
 ghost use Rattle.rina_queue.specs.Queues.{queue_place};
 ghost use Rattle.rina_data.specs.declared.process.IpcProcess.{IpcProcess};
 ghost use Rattle.rina_channel.specs.Names.{unnamed};
+ghost use Rattle.rina_member.specs.declared.management.Management.{Management};
 ghost use Rattle.rina_dif.specs.Elsewhere.{ChangesProcess};
 ghost use Rattle.rina_dif.specs.Holding.{Holds, Stands};
 ghost use Rattle.rina_dif.specs.Messaging.{FindsOpenEnd, IsAllocated, IsOpenEnd, IsReady, OffersAmong, OffersAt, TellsFirstSdu, TellsRoomFor};
@@ -160,6 +161,16 @@ impl Dif {
         self.offer_sdu(alloc, at, place, number, sdu)
     }
 
+    /// Whether any message waits at the member of a place.
+    fn has_waiting(&self, at: usize) -> bool
+        ensures { (m : Management) → slice_get self.now.managements at ≡ Some m → IsTrue result ↔ (0 < length m.agent.agenda) }
+    {
+        match self.managements.get(at) {
+            Some(management) => management.agent.agenda.len() > 0,
+            None => false,
+        }
+    }
+
     /// Offers the message that is due at the link of the least number, at the IPC process of a place, and answers that number. None
     /// exactly where none is due; without memory nothing changes.
     pub(crate) fn offer_message<F: Facility>(
@@ -177,6 +188,9 @@ impl Dif {
         ensures whole { self.new ≡ record self.old { processes = self.new.processes; connections = record self.old.connections { flows = self.new.connections.flows }; managements = self.new.managements } }
         ensures leaves { ChangesProcess (Some at) self.old.processes self.new.processes }
     {
+        if !self.has_waiting(at) {
+            return Ok(None);
+        }
         for number in 0..MOST_LINKS {
             if self.offer_on(alloc, below, at, number)? {
                 return Ok(Some(number));

@@ -2,7 +2,6 @@
 use rina_base::Memory;
 use rina_graph::{Graph, least_hops};
 use std::alloc::Global;
-use std::test::Fail;
 
 /// A line of a table of graphs.
 #[derive(Clone, Copy)]
@@ -100,9 +99,15 @@ fn first_difference(alloc: Global, graph: &mut Graph) -> Option<usize> {
     None
 }
 
+/// The same, where no graph has begun.
+fn first_of_all(alloc: Global) -> Option<usize> {
+    match Graph::new(alloc, 0) {
+        Ok(mut graph) => first_difference(alloc, &mut graph),
+        Err(Memory) => Some(0),
+    }
+}
+
 #[test]
-fn walks_are_least(rt: HostRuntime) -> Result<(), Fail> {
-    let mut graph = Graph::new(rt.alloc(), 0)?;
-    assert_eq!(rt; first_difference(rt.alloc(), &mut graph), None);
-    Ok(())
+fn walks_are_least(rt: HostRuntime) {
+    assert_eq!(rt; first_of_all(rt.alloc()), None);
 }

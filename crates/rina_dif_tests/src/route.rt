@@ -188,8 +188,13 @@ impl Known {
     }
 }
 
+/// The place of the first line that is not so, where nothing is known at first.
+fn first_of_all(alloc: Global) -> Option<usize> {
+    let mut known = Known::new(alloc);
+    known.first_difference(alloc)
+}
+
 #[test]
 fn next_hops_go_by_what_both_ends_claim(rt: HostRuntime) {
-    let mut known = Known::new(rt.alloc());
-    assert_eq!(rt; known.first_difference(rt.alloc()), None);
+    assert_eq!(rt; first_of_all(rt.alloc()), None);
 }

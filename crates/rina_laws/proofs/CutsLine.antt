@@ -119,9 +119,8 @@ claimed fail Why now l (Some at) why h = why h
 
 pub explains : (fail : Fail) (Why : Type 0) → KeepsLine (Explains fail Why)
 explains fail Why = record {
-  named = λ now node app l why h. why h;
   unnamed = λ now node app l why h. why h;
-  flow = λ now ask l why h. why (back_flow fail now ask l h);
+  flow = λ now ask l free why h. why (back_flow fail now ask l h);
   claimed = claimed fail Why;
   sent = λ now failed fac bytes l i e line flows alive at why h. why (back_set fail l.ends i e (with_sent e _) at (λ state. state) h);
   passed = λ now l i e at why h. why (back_set fail l.ends i e (with_passed e) at (λ state. state) h);

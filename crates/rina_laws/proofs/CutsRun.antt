@@ -21,7 +21,7 @@ use Rattle.rina_wire.specs.Disturb.{copy_place, first_copy, held, lost, moved, m
 use Rattle.rina_wire.specs.Sound.{IsSound}
 use Rattle.rina_wire.proofs.SoundCut.{sound_cuts}
 use Rattle.rina_notes.specs.Look.{noted, state_notes}
-use Rattle.rina_notes.specs.Sites.{port_in}
+use Rattle.rina_notes.specs.Sites.{port_in, site_at}
 use Rattle.rina_notes.specs.Told.{answer_told, wire_told}
 use Rattle.rina_schedule.specs.Line.{line_at}
 use Rattle.rina_words.specs.Step.{Acts, Stage, rounds_after, wire_of}
@@ -31,11 +31,11 @@ use Rattle.rina_laws.specs.Frames.{wires_of}
 use Rattle.rina_laws.proofs.CutsOpening.{AreOpen, built_open}
 use Rattle.rina_laws.proofs.CutsLine.{Explains, HasFailed, back_cut, back_freed, explains}
 use Rattle.rina_laws.proofs.WiresAt.{Holds, rounds_by}
-use Rattle.rina_laws.proofs.WiresCalls.{HasWire, OnWire, carry_wire, keeps_wire}
+use Rattle.rina_laws.proofs.WiresCalls.{HasWire, OnWire, carry_wire, keeps_registers, keeps_wire}
 use Rattle.rina_laws.proofs.WiresFreed.{Never, free_clocks, never_after, never_word}
 use Rattle.rina_laws.proofs.WiresEvents.{keeps_free, keeps_hold, keeps_lose, keeps_repeat}
 use Rattle.rina_laws.proofs.WiresOf.{wires_now, wires_sound}
-use Rattle.rina_laws.proofs.WiresWords.{Special, acts, cutting, freeing, holding, losing, repeating}
+use Rattle.rina_laws.proofs.WiresWords.{Special, acts, cutting, freeing, holding, losing, publishing, registering, repeating}
 
 -- an end of this wire has failed so
 record FailedOn (fac : ℕ) (fail : Fail) (a : Air) : Type 0 where
@@ -101,6 +101,8 @@ special plan fac fail Why line (events.Cut wire) s ns s' here h d =
     let noted_is : ns ≡ notes.Line line now Done ∷ [] = d.0.notes ∙ ap (noted line (now_of s'.run.tower)) says ∙ ap (λ (m : ℕ). notes.Line line m Done ∷ []) same in
     here (record { at = now; wire = wire; asks = refl; names = is ∙ ap (λ (m : ℕ). Some m) named; is = cut; told = subst (λ (xs : List Note). Contains xs (notes.Line line now Done)) (sym noted_is) (Contains-push [] (notes.Line line now Done)) })) c g)
 special plan fac fail Why line (events.Free label) s ns s' here h d = freeing (HasWire (Explains fail Why) fac) (port_in s.run.labels label) s.run d.0.says s'.run h d.0.does (λ rank port r a' is low c g. keeps_free (Explains fail Why) (λ now l i e there why has. why (back_freed fail l i e has)) fac (wires_of s.run.tower) port r a' c g)
+special plan fac fail Why line (events.Register name node app) s ns s' here h d = registering (HasWire (Explains fail Why) fac) app (site_at plan 1 name node) s.run d.0.says s'.run h d.0.does (λ site x a' is low told c g. keeps_registers (Explains fail Why) fac (wires_of s.run.tower) site.fac site.node app x a' (λ same done l why has. why has) c g)
+special plan fac fail Why line (events.Publish dif node fac_name) s ns s' here h d = publishing (HasWire (Explains fail Why) fac) plan dif node fac_name s.run d.0.says s'.run h d.0.does (λ n place name x a' ipc c g. keeps_registers (Explains fail Why) fac (wires_of s.run.tower) n place name x a' (λ same done l why has. why has) c g)
 special plan fac fail Why line event s ns s' here h d = tt
 
 -- ---- a line

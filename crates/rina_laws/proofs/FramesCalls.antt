@@ -1,5 +1,5 @@
 -- Each call on wires keeps a frame carried.
-use Rattle.std.proofs.Common.{◌≡◌, ℕ, ◌+◌, ◌==◌, Bool, false, [], ◌∷◌, Some, None, Option, refl, ◌∙◌}
+use Rattle.std.proofs.Common.{◌≡◌, ℕ, ◌+◌, ◌==◌, Bool, false, List, [], ◌∷◌, Some, None, Option, refl, ◌∙◌}
 use Rattle.rina_iface.specs.declared.ask.Ask.{Ask}
 use Rattle.rina_iface.specs.declared.ends.End.{End}
 use Rattle.rina_iface.specs.declared.state.PortState.TheVariants.{Allocated}
@@ -58,11 +58,13 @@ opens k now failed fac l alive flows c other one stands =
     let copy : IsCopy l.life now l.ends c = holds_of (λ (f : Flight). f.frame == k) (IsCopy l.life now l.ends) l.flights c (flows.copies alive) one in
     (flows.sound.mates (mate c.to) copy.sender other copy.stands (rw (mate_mate c.to) stands)).state ∙ copy.allocated
 
+pub carry_named : (k now node : ℕ) (app : List ℕ) (l : Line) → Carries k now l → Carries k now (named node app l)
+carry_named k now node app l c = carry_on k now l (named node app l) (alike_ends k l (named node app l) refl refl refl refl) c
+
 pub frame_line : (k : ℕ) → KeepsLine (Carries k)
 frame_line k = record {
-  named = λ now node app l c. carry_on k now l (named node app l) (alike_ends k l (named node app l) refl refl refl refl) c;
   unnamed = λ now node app l c. carry_on k now l (unnamed node app l) (alike_ends k l (unnamed node app l) refl refl refl refl) c;
-  flow = carry_flow k;
+  flow = λ now ask l free c. carry_flow k now ask l c;
   claimed = carry_without k;
   sent = carry_sent k;
   passed = carry_pass k;

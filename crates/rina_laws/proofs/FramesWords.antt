@@ -22,18 +22,18 @@ use Rattle.rina_wire.specs.Free.{FreesOn}
 use Rattle.rina_wire.proofs.Carried.{end_is}
 use Rattle.rina_wire.proofs.SoundFree.{sound_frees}
 use Rattle.rina_notes.specs.Look.{state_at}
-use Rattle.rina_notes.specs.Sites.{port_in}
+use Rattle.rina_notes.specs.Sites.{port_in, site_at}
 use Rattle.rina_words.specs.Step.{Acts, Stage, wire_of}
 use Rattle.rina_laws.specs.Frames.{AreAsked, GivesUpOn, IsInFlight, IsOpenPort, Touches, copies_of, wires_of}
 use Rattle.rina_laws.specs.SomeStep.{SomeOfWord}
-use Rattle.rina_laws.proofs.FramesCalls.{IsCarrying, frame_line}
+use Rattle.rina_laws.proofs.FramesCalls.{IsCarrying, carry_named, frame_line}
 use Rattle.rina_laws.proofs.FramesEvents.{NoneWith, keeps_cuts, keeps_frees, keeps_holds, keeps_loses, keeps_repeats}
 use Rattle.rina_laws.proofs.FramesKept.{Carries}
 use Rattle.rina_laws.proofs.WiresAsked.{asked_end, asked_was}
 use Rattle.rina_laws.proofs.WiresAt.{Holds, Keeps, KeepsClocks, clocks_at}
-use Rattle.rina_laws.proofs.WiresCalls.{OnWire, keeps_wire}
+use Rattle.rina_laws.proofs.WiresCalls.{OnWire, keeps_registers, keeps_wire}
 use Rattle.rina_laws.proofs.WiresOf.{wires_rank}
-use Rattle.rina_laws.proofs.WiresWords.{Special, acts, cutting, freeing, holding, losing, repeating}
+use Rattle.rina_laws.proofs.WiresWords.{Special, acts, cutting, freeing, holding, losing, publishing, registering, repeating}
 
 -- each call keeps the frame
 pub frame_keeps : (fac k : ℕ) → Keeps (IsCarrying fac k)
@@ -67,6 +67,8 @@ spares fac k plan line (events.Repeat wire frame at) s ns s' spared h d = repeat
 spares fac k plan line (events.Hold wire frame at) s ns s' spared h d = holding (IsCarrying fac k) (wire_of plan wire) frame at s.run d.0.says s'.run h d.0.does (λ n r a' is told g e. keeps_holds fac k (wires_of s.run.tower) n frame at r a' (λ same frame_is. spared (named (wire_of plan wire) n fac is same, frame_is)) g e)
 spares fac k plan line (events.Cut wire) s ns s' spared h d = cutting (IsCarrying fac k) (wire_of plan wire) s.run d.0.says s'.run h d.0.does (λ n r a' is told g e. keeps_cuts fac k (wires_of s.run.tower) n r a' (λ l same at. none_flies fac k s.run.tower l (λ flies. spared (named (wire_of plan wire) n fac is same, flies)) at) g e)
 spares fac k plan line (events.Free label) s ns s' spared h d = freeing (IsCarrying fac k) (port_in s.run.labels label) s.run d.0.says s'.run h d.0.does (λ rank port r a' is low g e. keeps_frees fac k (wires_of s.run.tower) port r a' (none_with fac k s.run.tower (port_in s.run.labels label) rank port is low spared) g e)
+spares fac k plan line (events.Register name node app) s ns s' spared h d = registering (IsCarrying fac k) app (site_at plan 1 name node) s.run d.0.says s'.run h d.0.does (λ site x a' is low told g e. keeps_registers (Carries k) fac (wires_of s.run.tower) site.fac site.node app x a' (λ same done l. carry_named k (wires_of s.run.tower).now site.node app l) g e)
+spares fac k plan line (events.Publish dif node fac_name) s ns s' spared h d = publishing (IsCarrying fac k) plan dif node fac_name s.run d.0.says s'.run h d.0.does (λ n place name x a' ipc g e. keeps_registers (Carries k) fac (wires_of s.run.tower) n place name x a' (λ same done l. carry_named k (wires_of s.run.tower).now place name l) g e)
 spares fac k plan line event s ns s' spared h d = tt
 
 -- ---- a step that may take a frame away

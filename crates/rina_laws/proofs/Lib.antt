@@ -70,3 +70,17 @@ pub mod NamedRun
 pub mod NamedShown
 pub mod NamedSteps
 pub mod NamedWords
+pub mod KeptDifs
+pub mod KeptSteps
+pub mod KeptWords
+pub mod KeptRun
+pub mod AskedEnds
+pub mod AskedLeads
+pub mod FarMade
+pub mod MemberAddress
+pub mod KnownRun
+pub mod WiresNamed
+pub mod WiresNamedRun
+pub mod Endings
+mod EndingsDone
+pub mod KeptAsks

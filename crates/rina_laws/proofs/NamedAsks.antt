@@ -85,16 +85,16 @@ module _ (e : End) (i : ℕ) where
   row_set : (d d' : DifSeen) (place : ℕ) (x y : End) → At d.ends place x → IsOneEnd x y → d'.ends ≡ slice_set d.ends place y → HasIn e i d'.ends → HasIn e i d.ends
   row_set d d' place x y at keeps is h = in_set e i d.ends place x y at keeps (in_same e i (slice_set d.ends place y) d'.ends is h)
 
-  row_same : (d d' : DifSeen) → d' ≡ d → HasIn e i d'.ends → HasIn e i d.ends
+  pub row_same : (d d' : DifSeen) → d' ≡ d → HasIn e i d'.ends → HasIn e i d.ends
   row_same d d' is = in_same e i d.ends d'.ends (ap (λ (z : DifSeen). z.ends) is)
 
-  turned : (d : DifSeen) (place : ℕ) (state : PortState) (d' : DifSeen) → IsTurnedDown d place state d' → HasIn e i d'.ends → HasIn e i d.ends
+  pub turned : (d : DifSeen) (place : ℕ) (state : PortState) (d' : DifSeen) → IsTurnedDown d place state d' → HasIn e i d'.ends → HasIn e i d.ends
   turned d place state d' t = row_set d d' place t.end (record t.end { state = state }) t.is_end (one_state t.end state) (ap (λ (z : DifSeen). z.ends) t.new_is)
 
-  answered : (d : DifSeen) (place : ℕ) (d' : DifSeen) → IsAnsweredTo d place d' → HasIn e i d'.ends → HasIn e i d.ends
+  pub answered : (d : DifSeen) (place : ℕ) (d' : DifSeen) → IsAnsweredTo d place d' → HasIn e i d'.ends → HasIn e i d.ends
   answered d place d' t = row_set d d' place t.asker (record t.asker { state = Allocated }) t.is_conn.end (one_state t.asker Allocated) (ap (λ (z : DifSeen). z.ends) t.new_is)
 
-  ended : (d : DifSeen) (lines : List Direction) (place : ℕ) (state : PortState) (d' : DifSeen) → IsEnded d lines place state d' → HasIn e i d'.ends → HasIn e i d.ends
+  pub ended : (d : DifSeen) (lines : List Direction) (place : ℕ) (state : PortState) (d' : DifSeen) → IsEnded d lines place state d' → HasIn e i d'.ends → HasIn e i d.ends
   ended d lines place state d' t = row_set d d' place t.end (record t.end { state = state }) t.is_conn.end (one_state t.end state) (ap (λ (z : DifSeen). z.ends) t.new_is)
 
   freed_end : (state : PortState) (d : DifSeen) (lines : List Direction) (place : ℕ) (end : End) (d' : DifSeen) → At d.ends place end → FreesEnd state d lines place end d' → HasIn e i d'.ends → HasIn e i d.ends
@@ -141,20 +141,20 @@ module _ (e : End) (i : ℕ) where
   home_ends d lines below n r d' lines' below' (Some k) s = ins_ends d lines below k n r d' lines' below' s
   home_ends d lines below n r d' lines' below' None s = row_same d d' s.1
 
-  at_ends : (d : DifSeen) (lines : List Direction) (below : Seen) (node n : ℕ) (r : Result InStep StepError) (d' : DifSeen) (lines' : List Direction) (below' : Seen) → InsAt d lines below node n r d' lines' below' → HasIn e i d'.ends → HasIn e i d.ends
+  pub at_ends : (d : DifSeen) (lines : List Direction) (below : Seen) (node n : ℕ) (r : Result InStep StepError) (d' : DifSeen) (lines' : List Direction) (below' : Seen) → InsAt d lines below node n r d' lines' below' → HasIn e i d'.ends → HasIn e i d.ends
   at_ends d lines below node n (Ok done) d' lines' below' s = home_ends d lines below n (Ok done) d' lines' below' (home node d.config.members) s
   at_ends d lines below node n (Err Memory) d' lines' below' s = row_same d d' s.0
   at_ends d lines below node n (Err NoIpc) d' lines' below' s = home_ends d lines below n (Err NoIpc) d' lines' below' (home node d.config.members) s
   at_ends d lines below node n (Err NoLink) d' lines' below' s = home_ends d lines below n (Err NoLink) d' lines' below' (home node d.config.members) s
   at_ends d lines below node n (Err (CountSpent need left)) d' lines' below' s = home_ends d lines below n (Err (CountSpent need left)) d' lines' below' (home node d.config.members) s
 
-  rerouted_ends : (d d' : DifSeen) → MayReroute d d' → HasIn e i d'.ends → HasIn e i d.ends
+  pub rerouted_ends : (d d' : DifSeen) → MayReroute d d' → HasIn e i d'.ends → HasIn e i d.ends
   rerouted_ends d d' (inl same) = row_same d d' same
   rerouted_ends d d' (inr r) = in_same e i d.ends d'.ends (ap (λ (z : DifSeen). z.ends) r.is)
 
   -- ---- answers and deletes
 
-  dif_same : (d d' : Dif) → d' ≡ d → HasEnd e i d' → HasEnd e i d
+  pub dif_same : (d d' : Dif) → d' ≡ d → HasEnd e i d' → HasEnd e i d
   dif_same d d' is = in_same e i d.flows.journal.ends d'.flows.journal.ends (ap (λ (z : Dif). z.flows.journal.ends) is)
 
   managed_same : (d d' : Dif) (ms : List Management) → d' ≡ record d { managements = ms } → HasEnd e i d' → HasEnd e i d

@@ -117,10 +117,10 @@ low_rank p difs below r test = rw test refl
 abbrev dif_by : ℕ → Option Tower → Option Dif
 dif_by n o = option_and_then (λ (u : Tower). dif_of u n) o
 
-own_dif : (p : _) (difs : List Dif) (below : Tower) (r n : ℕ) → (r == height_of below + 1) ≡ true → dif_at (Rank' p difs below) r n ≡ slice_get difs n
+pub own_dif : (p : _) (difs : List Dif) (below : Tower) (r n : ℕ) → (r == height_of below + 1) ≡ true → dif_at (Rank' p difs below) r n ≡ slice_get difs n
 own_dif p difs below r n test = ap (dif_by n) (own_rank p difs below r test)
 
-low_dif : (p : _) (difs : List Dif) (below : Tower) (r n : ℕ) → (r == height_of below + 1) ≡ false → dif_at (Rank' p difs below) r n ≡ dif_at below r n
+pub low_dif : (p : _) (difs : List Dif) (below : Tower) (r n : ℕ) → (r == height_of below + 1) ≡ false → dif_at (Rank' p difs below) r n ≡ dif_at below r n
 low_dif p difs below r n test = ap (dif_by n) (low_rank p difs below r test)
 
 wires_rank : (a : Air) (r : ℕ) → (rank_of (Wires a) r ≡ None) ⊎ (rank_of (Wires a) r ≡ Some (Wires a))
@@ -129,7 +129,7 @@ wires_rank a r = elim (eqb_tells r 0) [
   | inr f ↦ inl (rw f.0 refl)
 ]
 
-no_dif : (a : Air) (r n : ℕ) (d : Dif) → dif_at (Wires a) r n ≡ Some d → ⊥
+pub no_dif : (a : Air) (r n : ℕ) (d : Dif) → dif_at (Wires a) r n ≡ Some d → ⊥
 no_dif a r n d h = elim (wires_rank a r) [
   | inl o ↦ (let no : None ≡ Some d = sym (ap (dif_by n) o) ∙ h in cc)
   | inr o ↦ (let no : None ≡ Some d = sym (ap (dif_by n) o) ∙ h in cc)

@@ -102,7 +102,7 @@ module _ (e : End) (i : ℕ) where
   pub gone_on : (Changes : ℕ → Type 0) (d d' : Dif) → GoesOn d d' → SameBut Changes d.flows.journal.ends d'.flows.journal.ends → ((x : End) (j : ℕ) → Changes j → (y : End) × At d.flows.journal.ends j y) → HasEnd e i d' → HasEnd e i d
   gone_on Changes d d' g same within h = in_later d.clock d'.clock d.flows.journal.ends d'.flows.journal.ends g.later.ends h (stood Changes d.flows.journal.ends d'.flows.journal.ends same (λ j c. within h.end j c) h.end h.stands)
 
-  flows_same : (d d' : Dif) → d'.flows ≡ d.flows → HasEnd e i d' → HasEnd e i d
+  pub flows_same : (d d' : Dif) → d'.flows ≡ d.flows → HasEnd e i d' → HasEnd e i d
   flows_same d d' is h = in_same d.flows.journal.ends d'.flows.journal.ends (ap (λ (f : Flows). f.journal.ends) is) h
 
 -- ---- places

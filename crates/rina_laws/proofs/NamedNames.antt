@@ -62,14 +62,14 @@ any_removed p xs i h = elim (or_cases (list_any p (take i xs)) (list_any p (drop
 -- ---- lists of names
 
 -- where one more is registered
-named_by : (names : List Registered) (place : ℕ) (name : List ℕ) (node : ℕ) (app : List ℕ) → is_registered (with_name names place name) node app ≡ true → (is_registered names node app ≡ true) ⊎ ((place ≡ node) × (name ≡ app))
+pub named_by : (names : List Registered) (place : ℕ) (name : List ℕ) (node : ℕ) (app : List ℕ) → is_registered (with_name names place name) node app ≡ true → (is_registered names node app ≡ true) ⊎ ((place ≡ node) × (name ≡ app))
 named_by names place name node app h = elim (any_last (λ (r : Registered). (r.node == node) && bytes_eq r.app app) names (record { node = place; app = name }) h) [
   | inl t ↦ inl t
   | inr t ↦ (let both = and_parts (place == node) (bytes_eq name app) t in inr ((Decides-eqb place node).0 both.0, (bytes_eq-Decides name app).0 both.1))
 ]
 
 -- where one is taken back
-named_still : (names : List Registered) (o : Option ℕ) (node : ℕ) (app : List ℕ) → is_registered (without_at names o) node app ≡ true → is_registered names node app ≡ true
+pub named_still : (names : List Registered) (o : Option ℕ) (node : ℕ) (app : List ℕ) → is_registered (without_at names o) node app ≡ true → is_registered names node app ≡ true
 named_still names None node app h = h
 named_still names (Some at) node app h = any_removed (λ (r : Registered). (r.node == node) && bytes_eq r.app app) names at h
 

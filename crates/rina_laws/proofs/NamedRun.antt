@@ -2,6 +2,7 @@
 use Rattle.std.proofs.Common.{◌≡◌, ◌∙◌, ◌⊎◌, ℕ, ◌+◌, ◌≤◌, zero, suc, nat_lt, Bool, true, false, List, [], ◌∷◌, slice_get, Option, Some, None, Result, Ok, Err, Contains, refl, sym, ap, subst, arith, inl, inr}
 use Rattle.std.proofs.lemmas.Bool.{false≢true}
 use Rattle.std.proofs.lemmas.List.Elements.{Contains-append_left, Contains-append_right, Contains-push}
+use Rattle.rina_base.specs.Names as base_names
 use Rattle.rina_iface.specs.declared.error.RegisterError.{RegisterError}
 use Rattle.rina_policy.specs.Slots.{Slot}
 use Rattle.rina_report.specs.declared.answer.Answer.{Answer}
@@ -59,7 +60,7 @@ rests_same F t t' v is = subst (Rests F t) (sym is) (record { valid = v; clock =
 rests_on : (F : Fact) (t u v : Tower) → Rests F t u → Rests F u v → Rests F t v
 rests_on F t u v f g = (let a = f.clock in let b = g.clock in record { valid = g.valid; clock = omega (arith, a, b); quiet = never_on F t u v f.quiet g.quiet })
 
-clock_goes : (W : MayBeWritten) (t t' : Tower) → Goes W t t' → now_of t' ≡ now_of t
+pub clock_goes : (W : MayBeWritten) (t t' : Tower) → Goes W t t' → now_of t' ≡ now_of t
 clock_goes W t t' g = sym (seen_now t') ∙ g.alone.clock ∙ seen_now t
 
 rests_goes : (F : Fact) (W : MayBeWritten) (t t' : Tower) → Goes W t t' → Comes F Never t t' → Rests F t t'
@@ -115,32 +116,32 @@ module _ (node : ℕ) (app : List ℕ) where
 -- ---- a word
 
 -- a line of this number asks to register the application at this node of this DIF of this rank, and its `ok` is told, at a tick of at most this
-record IsHere (plan : Plan) (r n node : ℕ) (app : List ℕ) (number : ℕ) (asked : Result (Option Event) LineError) (ns : List Note) (now : ℕ) : Type 0 where
-  dif_name : List ℕ
-  node_name : List ℕ
-  asks : asked ≡ Ok (Some (events.Register dif_name node_name app))
-  names : site_at plan 1 dif_name node_name ≡ Ok (record { rank = r; fac = n; node = node })
-  tick : ℕ
-  past : tick ≤ now
-  told : Contains ns (notes.Line number tick Done)
+pub record IsHere (plan : Plan) (r n node : ℕ) (app : List ℕ) (number : ℕ) (asked : Result (Option Event) LineError) (ns : List Note) (now : ℕ) : Type 0 where
+  pub dif_name : List ℕ
+  pub node_name : List ℕ
+  pub asks : asked ≡ Ok (Some (events.Register dif_name node_name app))
+  pub names : site_at plan 1 dif_name node_name ≡ Ok (record { rank = r; fac = n; node = node })
+  pub tick : ℕ
+  pub past : tick ≤ now
+  pub told : Contains ns (notes.Line number tick Done)
 
 -- the tower stands after it, the clock has not fallen, and where the name is there it was so before, or this holds
-record Leads (r n node : ℕ) (app : List ℕ) (S : Type 0) (t t' : Tower) : Type 0 where
-  valid : IsTower t'
-  clock : now_of t ≤ now_of t'
-  back : HoldsAt (HasName node app) r n t' → HoldsAt (HasName node app) r n t ⊎ S
+pub record Leads (r n node : ℕ) (app : List ℕ) (S : Type 0) (t t' : Tower) : Type 0 where
+  pub valid : IsTower t'
+  pub clock : now_of t ≤ now_of t'
+  pub back : HoldsAt (HasName node app) r n t' → HoldsAt (HasName node app) r n t ⊎ S
 
 -- the name that a line registers
-record IsName (r n node : ℕ) (app : List ℕ) (found : Result Site ℕ) (name : List ℕ) (says : Option Answer) : Type 0 where
-  site : found ≡ Ok (record { rank = r; fac = n; node = node })
-  app_is : name ≡ app
-  done : says ≡ Some Done
+pub record IsName (r n node : ℕ) (app : List ℕ) (found : Result Site ℕ) (name : List ℕ) (says : Option Answer) : Type 0 where
+  pub site : found ≡ Ok (record { rank = r; fac = n; node = node })
+  pub app_is : name ≡ app
+  pub done : says ≡ Some Done
 
 -- the site of a line
 abbrev site_in : ℕ → ℕ → ℕ → Result Site ℕ
 site_in rank fac place = Ok (record { rank = rank; fac = fac; node = place })
 
-was_done : (x : Result (Unit {0}) (AppError RegisterError)) → IsDone x → answer_told (λ (z : Unit {0}). Some Done) (app_told register_told) x ≡ Some Done
+pub was_done : (x : Result (Unit {0}) (AppError RegisterError)) → IsDone x → answer_told (λ (z : Unit {0}). Some Done) (app_told register_told) x ≡ Some Done
 was_done (Ok done) d = refl
 was_done (Err e) d = absurd d
 
@@ -151,7 +152,7 @@ module _ (r n node : ℕ) (app : List ℕ) where
   leads_rests : (S : Type 0) (t t' : Tower) → Rests (HasName node app) t t' → Leads r n node app S t t'
   leads_rests S t t' k = record { valid = k.valid; clock = k.clock; back = λ h. inl (never_at (HasName node app) t t' r n k.quiet h) }
 
-  its_site : (site : Site) → r ≡ site.rank → n ≡ site.fac → site.node ≡ node → site_in site.rank site.fac site.node ≡ site_in r n node
+  pub its_site : (site : Site) → r ≡ site.rank → n ≡ site.fac → site.node ≡ node → site_in site.rank site.fac site.node ≡ site_in r n node
   its_site site rank fac place = ap (λ (a : ℕ). site_in a site.fac site.node) (sym rank) ∙ ap (λ (b : ℕ). site_in r b site.node) (sym fac) ∙ ap (λ (c : ℕ). site_in r n c) place
 
   registering : (name : List ℕ) (found : Result Site ℕ) (w : Run) (says : Option Answer) (w' : Run) → IsTower w.tower → AtSite found (CallsRegister name w) w says w' → There w'.tower → There w.tower ⊎ IsName r n node app found name says
@@ -164,7 +165,7 @@ module _ (r n node : ℕ) (app : List ℕ) where
         | inr c ↦ (let k = c.why.0 in inr (record { site = its_site site k.its_rank k.its_fac k.its_node; app_is = k.its_app; done = d.told ∙ was_done d.result c.why.1 }))
       ]
 
-  here_told : (plan : Plan) (number : ℕ) (name dif_name node_name : List ℕ) (says : Option Answer) (ns : List Note) (now : ℕ) → IsName r n node app (site_at plan 1 dif_name node_name) name says → ns ≡ noted number now says → IsHere plan r n node app number (Ok (Some (events.Register dif_name node_name name))) ns now
+  pub here_told : (plan : Plan) (number : ℕ) (name dif_name node_name : List ℕ) (says : Option Answer) (ns : List Note) (now : ℕ) → IsName r n node app (site_at plan 1 dif_name node_name) name says → ns ≡ noted number now says → IsHere plan r n node app number (Ok (Some (events.Register dif_name node_name name))) ns now
   here_told plan number name dif_name node_name says ns now k told =
       let is : ns ≡ notes.Line number now Done ∷ [] = told ∙ ap (noted number now) k.done in
       record {
@@ -203,7 +204,7 @@ module _ (r n node : ℕ) (app : List ℕ) where
 
   -- ---- a line
 
-  here_in : (plan : Plan) (number : ℕ) (asked : Result (Option Event) LineError) (ns all : List Note) (now later : ℕ) → now ≤ later → ((note : Note) → Contains ns note → Contains all note) → IsHere plan r n node app number asked ns now → IsHere plan r n node app number asked all later
+  pub here_in : (plan : Plan) (number : ℕ) (asked : Result (Option Event) LineError) (ns all : List Note) (now later : ℕ) → now ≤ later → ((note : Note) → Contains ns note → Contains all note) → IsHere plan r n node app number asked ns now → IsHere plan r n node app number asked all later
   here_in plan number asked ns all now later le more h = (let past = h.past in record { dif_name = h.dif_name; node_name = h.node_name; asks = h.asks; names = h.names; tick = h.tick; past = omega (arith, le, past); told = more (notes.Line number h.tick Done) h.told })
 
   line_does : (plan : Plan) (number : ℕ) (asked : Result (Option Event) LineError) (s : Stage) (ns : List Note) (s' : Stage) → is_ipc app ≡ false → IsTower s.run.tower → LineDoes plan number asked s ns s' → Leads r n node app (IsHere plan r n node app number asked ns (now_of s'.run.tower)) s.run.tower s'.run.tower
@@ -224,27 +225,32 @@ module _ (r n node : ℕ) (app : List ℕ) where
       }
   line_does plan number (Err e) s ns s' plain v d = absurd d
 
+-- the tower stands after a line
+pub line_stands : (plan : Plan) (number : ℕ) (asked : Result (Option Event) LineError) (s : Stage) (ns : List Note) (s' : Stage) → IsTower s.run.tower → LineDoes plan number asked s ns s' → IsTower s'.run.tower
+unfolding base_names.slash_in
+line_stands plan number asked s ns s' v d = (line_does 0 0 0 [] plan number asked s ns s' refl v d).valid
+
 -- ---- lines
 
 -- one of the lines, of which the first has this number, registers the name
-record IsAmong (plan : Plan) (r n node : ℕ) (app : List ℕ) (number : ℕ) (lines : List (List ℕ)) (ns : List Note) (now : ℕ) : Type 0 where
-  before : ℕ
-  line : List ℕ
-  stands : slice_get lines before ≡ Some line
-  here : IsHere plan r n node app (number + before) (line_at line) ns now
+pub record IsAmong (plan : Plan) (r n node : ℕ) (app : List ℕ) (number : ℕ) (lines : List (List ℕ)) (ns : List Note) (now : ℕ) : Type 0 where
+  pub before : ℕ
+  pub line : List ℕ
+  pub stands : slice_get lines before ≡ Some line
+  pub here : IsHere plan r n node app (number + before) (line_at line) ns now
 
 module _ (plan : Plan) (r n node : ℕ) (app : List ℕ) (plain : is_ipc app ≡ false) where
-  among_first : (number : ℕ) (l : List ℕ) (ls : List (List ℕ)) (ns : List Note) (now : ℕ) → IsHere plan r n node app number (line_at l) ns now → IsAmong plan r n node app number (l ∷ ls) ns now
+  pub among_first : (number : ℕ) (l : List ℕ) (ls : List (List ℕ)) (ns : List Note) (now : ℕ) → IsHere plan r n node app number (line_at l) ns now → IsAmong plan r n node app number (l ∷ ls) ns now
   among_first number l ls ns now h =
       let same : number ≡ number + 0 = omega arith in
       record { before = 0; line = l; stands = refl; here = subst (λ (m : ℕ). IsHere plan r n node app m (line_at l) ns now) same h }
 
-  among_later : (number : ℕ) (l : List ℕ) (ls : List (List ℕ)) (ns : List Note) (now : ℕ) → IsAmong plan r n node app (number + 1) ls ns now → IsAmong plan r n node app number (l ∷ ls) ns now
+  pub among_later : (number : ℕ) (l : List ℕ) (ls : List (List ℕ)) (ns : List Note) (now : ℕ) → IsAmong plan r n node app (number + 1) ls ns now → IsAmong plan r n node app number (l ∷ ls) ns now
   among_later number l ls ns now a =
       let same : (number + 1) + a.before ≡ number + suc a.before = omega arith in
       record { before = suc a.before; line = a.line; stands = a.stands; here = subst (λ (m : ℕ). IsHere plan r n node app m (line_at a.line) ns now) same a.here }
 
-  among_in : (number : ℕ) (ls : List (List ℕ)) (ns all : List Note) (now : ℕ) → ((note : Note) → Contains ns note → Contains all note) → IsAmong plan r n node app number ls ns now → IsAmong plan r n node app number ls all now
+  pub among_in : (number : ℕ) (ls : List (List ℕ)) (ns all : List Note) (now : ℕ) → ((note : Note) → Contains ns note → Contains all note) → IsAmong plan r n node app number ls ns now → IsAmong plan r n node app number ls all now
   among_in number ls ns all now more a = record { before = a.before; line = a.line; stands = a.stands; here = here_in r n node app plan (number + a.before) (line_at a.line) ns all now now (omega arith) more a.here }
 
   runs : (number : ℕ) (s : Stage) (ls : List (List ℕ)) (ns : List Note) (s' : Stage) → IsTower s.run.tower → Runs plan number s ls ns s' → Leads r n node app (IsAmong plan r n node app number ls ns (now_of s'.run.tower)) s.run.tower s'.run.tower
@@ -278,7 +284,7 @@ named_there t r n node app h = (let x = held_by (dif_at t r n) node app h in rec
 not_named : (t : Tower) (r n node : ℕ) (app : List ℕ) → is_named t r n node app ≡ false → HoldsAt (HasName node app) r n t → ⊥
 not_named t r n node app none h = false≢true (sym none ∙ ap (λ (o : Option Dif). has_name o node app) h.is_dif ∙ h.holds)
 
-registration : (plan : Plan) (r n node : ℕ) (app : List ℕ) (lines : List (List ℕ)) (ns : List Note) (now : ℕ) → IsAmong plan r n node app 1 lines ns now → IsRegistration plan r n node app now lines ns
+pub registration : (plan : Plan) (r n node : ℕ) (app : List ℕ) (lines : List (List ℕ)) (ns : List Note) (now : ℕ) → IsAmong plan r n node app 1 lines ns now → IsRegistration plan r n node app now lines ns
 registration plan r n node app lines ns now a =
     let h = a.here in
     let same : 1 + a.before ≡ a.before + 1 = omega arith in

@@ -105,6 +105,13 @@ name_there : (members : List Member) (node : ℕ) (o : Option Member) (name : Li
 name_there members node None name is h = cc
 name_there members node (Some m) name is h = (let x = found_in (λ (z : Member). z.node == node) members m is in (x.0, m, x.1, same_Some m.name name h))
 
+-- the name of a member of a DIF is that of an IPC process
+pub name_ipc : (node : ℕ) (p : _) (difs : List Dif) (below : Tower) (dif : ℕ) (o : Option Dif) (name : List ℕ) → IsTower (Rank' p difs below) → slice_get difs dif ≡ o → option_and_then (λ (d : Dif). name_of d.settings.members node) o ≡ Some name → IsIpc name
+name_ipc node p difs below dif None name v is h = cc
+name_ipc node p difs below dif (Some d) name v is h =
+    let m = name_there d.settings.members node (find (λ (z : Member). z.node == node) d.settings.members) name refl h in
+    subst IsIpc m.3 (member_ipc difs below dif d m.0 m.1 v.0.standing is m.2)
+
 module _ (F : Fact) (fac node : ℕ) (regs : IpcsStay F fac node) where
   registers_ipc : (o : Option (List ℕ)) (x : Result (Unit {0}) PublishError) (b b' : Tower) → ((name : List ℕ) → o ≡ Some name → IsIpc name) → RegistersIpc o fac node x b b' → Comes F Never b b'
   registers_ipc None x b b' ipc d = comes_is F Never b b' d.1
@@ -112,17 +119,11 @@ module _ (F : Fact) (fac node : ℕ) (regs : IpcsStay F fac node) where
   registers_ipc (Some name) (Err (Lower e)) b b' ipc d = regs name (Err e) b b' (ipc name refl) d
   registers_ipc (Some name) (Err NoMember) b b' ipc d = absurd d
 
-  name_ipc : (p : _) (difs : List Dif) (below : Tower) (dif : ℕ) (o : Option Dif) (name : List ℕ) → IsTower (Rank' p difs below) → slice_get difs dif ≡ o → option_and_then (λ (d : Dif). name_of d.settings.members node) o ≡ Some name → IsIpc name
-  name_ipc p difs below dif None name v is h = cc
-  name_ipc p difs below dif (Some d) name v is h =
-      let m = name_there d.settings.members node (find (λ (z : Member). z.node == node) d.settings.members) name refl h in
-      subst IsIpc m.3 (member_ipc difs below dif d m.0 m.1 v.0.standing is m.2)
-
   pub publishes : (dif : ℕ) (x : Result (Unit {0}) PublishError) (u u' : Tower) → IsTower u → PublishesAtTop dif node fac x u u' → Comes F Never u u'
   publishes dif x (Wires a) (Wires a') v d = tt
   publishes dif x (Rank' p difs below) (Rank' p' difs' below') v d = (
     subst (RankComes F Never difs below) (sym d.0) (rank_same F Never difs below),
-    registers_ipc (ipc_name_at difs dif node) x below below' (λ name is. name_ipc p difs below dif (slice_get difs dif) name v refl is) d.1,
+    registers_ipc (ipc_name_at difs dif node) x below below' (λ name is. name_ipc node p difs below dif (slice_get difs dif) name v refl is) d.1,
   )
   publishes dif x (Wires a) (Rank' p difs below) v d = absurd d
   publishes dif x (Rank' p difs below) (Wires a) v d = absurd d

@@ -23,7 +23,7 @@ use Rattle.rina_wire.specs.Air.{Air, Line, on_wire, put}
 use Rattle.rina_wire.specs.Bind.{bound_on}
 use Rattle.rina_wire.specs.Plan.{air_of, line_of}
 use Rattle.rina_tower.specs.declared.tower.Tower.{Tower, Wires, Rank'}
-use Rattle.rina_tower.specs.BuiltWhole.{AreMadeOver, IsFresh}
+use Rattle.rina_tower.specs.BuiltWhole.{AreMadeOver, IsFresh, IsMade}
 use Rattle.rina_tower.specs.Calls.{BindsAtTop, BindsWhole}
 use Rattle.rina_tower.specs.Fits.{flows_at}
 use Rattle.rina_tower.specs.MemoryFailure.{has_failed}
@@ -42,14 +42,14 @@ did_bind t u f ports h = elim (has_failed t) as (λ b. has_failed t ≡ b → Bi
 ] refl
 
 -- each bind that is done keeps this
-abbrev BindsKeep : (Tower → Type 0) → Type 0
+abbrev pub BindsKeep : (Tower → Type 0) → Type 0
 BindsKeep P = (t u : Tower) (f : Fixed) (ports : Port × Port) → BindsAtTop f (Ok ports) t u → P t → P u
 
-turn_keeps : (P : Tower → Type 0) → BindsKeep P → (t : Tower) (fs : List Fixed) (u : Tower) → BindsInTurn BindsWhole t fs u → P t → P u
+pub turn_keeps : (P : Tower → Type 0) → BindsKeep P → (t : Tower) (fs : List Fixed) (u : Tower) → BindsInTurn BindsWhole t fs u → P t → P u
 turn_keeps P one t [] u b v = subst P (sym b) v
 turn_keeps P one t (f ∷ fs) u b v = turn_keeps P one b.1 fs u b.3 (one t b.1 f b.0 (did_bind t b.1 f b.0 b.2) v)
 
-over_keeps : (plan : Plan) (P : Tower → Type 0) → BindsKeep P → (is : List ℕ) (t : Tower) (ds : List Dif) (u : Tower) → AreMadeOver plan is t ds u → P t → P u
+pub over_keeps : (plan : Plan) (P : Tower → Type 0) → BindsKeep P → (is : List ℕ) (t : Tower) (ds : List Dif) (u : Tower) → AreMadeOver plan is t ds u → P t → P u
 over_keeps plan P one [] t [] u m v = subst P (sym m) v
 over_keeps plan P one [] t (d ∷ ds) u m v = absurd m
 over_keeps plan P one (i ∷ is) t [] u m v = absurd m
@@ -110,7 +110,7 @@ new_did_nothing g node ports p new = record {
   ledger = new.ledger;
 }
 
-dif_there : (plan : Plan) (i : ℕ) (s : Settings) (o : Option DifPlan) → slice_get plan.difs i ≡ o → settings_in plan i o ≡ Some s → (dif : DifPlan) × (slice_get plan.difs i ≡ Some dif)
+pub dif_there : (plan : Plan) (i : ℕ) (s : Settings) (o : Option DifPlan) → slice_get plan.difs i ≡ o → settings_in plan i o ≡ Some s → (dif : DifPlan) × (slice_get plan.difs i ≡ Some dif)
 dif_there plan i s None is of = absurd cc
 dif_there plan i s (Some dif) is of = (dif, is)
 
@@ -122,12 +122,13 @@ new_untouched plan i d old new h =
       kept = λ k member p m of at here. none_started d.settings.cubes dif.0.is_static d.settings.members dif.0.links member m.objects ((h.managed dif.0 dif.1).each k member p m of at here).shows;
     }
 
-made_untouched : (plan : Plan) (is : List ℕ) (t : Tower) (ds : List Dif) (u : Tower) → AreMadeOver plan is t ds u → (n : ℕ) (d : Dif) → slice_get ds n ≡ Some d → IsUntouched d
-made_untouched plan [] t [] u m n d h = cc
-made_untouched plan [] t (x ∷ ds) u m n d h = absurd m
-made_untouched plan (i ∷ is) t [] u m n d h = absurd m
-made_untouched plan (i ∷ is) t (x ∷ ds) u m zero d h = subst IsUntouched (same_Some x d h) (new_untouched plan i x (seen_of t) (seen_of m.0) m.1)
-made_untouched plan (i ∷ is) t (x ∷ ds) u m (suc n) d h = made_untouched plan is m.0 ds u m.3 n d h
+-- what each DIF has that was made, each of those has that were made one after the other
+pub made_have : (Has : Dif → Type 0) (plan : Plan) → ((i : ℕ) (d : Dif) (old new : Seen) → IsMade plan i d old new → Has d) → (is : List ℕ) (t : Tower) (ds : List Dif) (u : Tower) → AreMadeOver plan is t ds u → (n : ℕ) (d : Dif) → slice_get ds n ≡ Some d → Has d
+made_have Has plan each [] t [] u m n d h = cc
+made_have Has plan each [] t (x ∷ ds) u m n d h = absurd m
+made_have Has plan each (i ∷ is) t [] u m n d h = absurd m
+made_have Has plan each (i ∷ is) t (x ∷ ds) u m zero d h = subst Has (same_Some x d h) (each i x (seen_of t) (seen_of m.0) m.1)
+made_have Has plan each (i ∷ is) t (x ∷ ds) u m (suc n) d h = made_have Has plan each is m.0 ds u m.3 n d h
 
 bound_untouched : (d d' : Dif) (f : Fixed) → ChangesNames d d' → ManagesBind d f d'.managements → IsUntouched d → IsUntouched d'
 bound_untouched d d' f is m h = subst IsUntouched (sym is) (record {
@@ -150,7 +151,7 @@ binds_untouched (Rank' p difs below) (Wires a') f ports h v = absurd h
 fresh_untouched : (plan : Plan) (r : ℕ) (t : Tower) → IsFresh plan r t → AreUntouched t
 fresh_untouched plan zero t h = subst AreUntouched (sym h) tt
 fresh_untouched plan (suc r) (Wires a) h = absurd h
-fresh_untouched plan (suc r) (Rank' p difs below) h = (made_untouched plan _ h.0 difs h.1 h.3, turn_keeps AreUntouched binds_untouched h.1 (flows_at plan r) below h.4 (over_keeps plan AreUntouched binds_untouched _ h.0 difs h.1 h.3 (fresh_untouched plan r h.0 h.2)))
+fresh_untouched plan (suc r) (Rank' p difs below) h = (made_have IsUntouched plan (λ i d old new m. new_untouched plan i d old new m.is_new) _ h.0 difs h.1 h.3, turn_keeps AreUntouched binds_untouched h.1 (flows_at plan r) below h.4 (over_keeps plan AreUntouched binds_untouched _ h.0 difs h.1 h.3 (fresh_untouched plan r h.0 h.2)))
 
 pub difs_start : DifsStartUntouched
 difs_start plan shelf s o = turn_keeps AreUntouched binds_untouched o.whole.0 _ s.run.tower o.whole.2 (fresh_untouched plan (height_of s.run.tower) o.whole.0 o.whole.1)

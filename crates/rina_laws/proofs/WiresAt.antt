@@ -34,6 +34,7 @@ use Rattle.rina_tower.specs.Calls.{ClaimsAtTop, FreesWhole, PassesAtTop, SendsWh
 use Rattle.rina_tower.specs.Ranks.{height_of, rank_of, seen_of}
 use Rattle.rina_tower.specs.Refusals.{frees_both, refuses_send}
 use Rattle.rina_tower.specs.Rounds.{AllMove, Anything, IsRound, Move, Moves, InMove, ClockMove, OutMove}
+use Rattle.rina_tower.specs.Stands.{IsTower}
 use Rattle.rina_tower.specs.Steps.{ClocksAt, ClocksAtTop, InStepsAtTop, OutStepsAtTop, claimant}
 use Rattle.rina_tower.specs.ClockTick.{Ticks}
 use Rattle.rina_tower.specs.Levels.{AtRank, AtWires}
@@ -42,14 +43,12 @@ use Rattle.rina_wire.specs.Allocate.{AllocatesOn}
 use Rattle.rina_wire.specs.Claim.{ClaimsOn}
 use Rattle.rina_wire.specs.Cut.{MendsOn}
 use Rattle.rina_wire.specs.Free.{FreesOn}
-use Rattle.rina_wire.specs.Register.{RegistersOn}
 use Rattle.rina_wire.specs.Send.{SendsOn, passed}
 use Rattle.rina_wire.specs.Tick.{TicksOn}
 use Rattle.rina_wire.specs.Unregister.{UnregistersOn}
 use Rattle.rina_wire.specs.declared.event.WireError.{WireError}
 use Rattle.rina_iface.specs.declared.ask.Ask.{Ask}
 use Rattle.rina_iface.specs.declared.error.AllocateError.{AllocateError}
-use Rattle.rina_iface.specs.declared.error.RegisterError.{RegisterError}
 use Rattle.rina_iface.specs.declared.error.UnregisterError.{UnregisterError}
 use Rattle.rina_words.specs.Step.{Passes, RoundsBy, for_app, waiting}
 use Rattle.rina_laws.specs.Frames.{AreAsked, wires_of}
@@ -57,9 +56,8 @@ use Rattle.rina_laws.specs.SomeStep.{SomeAfter, SomeMove, SomeOfRound}
 use Rattle.rina_laws.proofs.LabelRanks.{own_rank, rank_below}
 use Rattle.rina_laws.proofs.WiresAsked.{asked_in_turn, asked_keep}
 
--- the calls on wires that keep this of them: all but the events that touch a frame, and the end of a flow
+-- the calls on wires that keep this of them: all but `register`, the events that touch a frame, and the end of a flow
 pub record Keeps (P : Air → Type 0) : Type 0 where
-  pub registers : (a : Air) (wire node : ℕ) (app : List ℕ) (r : Result (Unit {0}) RegisterError) (a' : Air) → P a → RegistersOn a wire node app r a' → P a'
   pub unregisters : (a : Air) (wire node : ℕ) (app : List ℕ) (r : Result (Unit {0}) UnregisterError) (a' : Air) → P a → UnregistersOn a wire node app r a' → P a'
   pub allocates : (a : Air) (ask : Ask) (r : Result Port AllocateError) (a' : Air) → P a → AllocatesOn a ask r a' → P a'
   pub claims : (a : Air) (wire node : ℕ) (app : List ℕ) (r : Option Port) (a' : Air) → P a → ClaimsOn a wire node app r a' → P a'
@@ -72,16 +70,17 @@ pub record Keeps (P : Air → Type 0) : Type 0 where
 abbrev pub Holds : (Air → Type 0) → Tower → Type 0
 Holds P t = P (wires_of t)
 
--- this stands at rank r of a tower, over the same wires
+-- this stands at rank r of a tower, over the same wires, and is a tower where that is one
 pub record IsPart (t : Tower) (r : ℕ) (u : Tower) : Type 0 where
   pub wires : wires_of u ≡ wires_of t
   pub is_rank : rank_of t r ≡ Some u
   pub height : r ≡ height_of u
+  pub stands : IsTower t → IsTower u
 
 -- ---- at a rank
 
 own_part : (t : Tower) (r : ℕ) → r ≡ height_of t → IsPart t r t
-own_part t r is = record { wires = refl; is_rank = ap (rank_of t) is ∙ own_rank t; height = is }
+own_part t r is = record { wires = refl; is_rank = ap (rank_of t) is ∙ own_rank t; height = is; stands = λ v. v }
 
 -- what is done at a rank is done there, or nothing is
 pub at_rank : (P : Air → Type 0) (r : ℕ) (does : Tower → Tower → Type 0) (none : Type 0) (t t' : Tower) → Holds P t → AtRank r does none t t' → ((u u' : Tower) → IsPart t r u → Holds P u → does u u' → Holds P u') → Holds P t'
@@ -89,7 +88,7 @@ at_rank P r does none (Wires a) (Wires a') h (inl d) next = next (Wires a) (Wire
 at_rank P r does none (Wires a) (Wires a') h (inr d) next = subst P (sym d.2) h
 at_rank P r does none (Rank' p difs below) (Rank' p' difs' below') h (inl d) next = next (Rank' p difs below) (Rank' p' difs' below') (own_part (Rank' p difs below) r d.0) h d.1
 at_rank P r does none (Rank' p difs below) (Rank' p' difs' below') h (inr d) next =
-    at_rank P r does none below below' h d.2 (λ u u' part. next u u' (record { wires = part.wires; is_rank = rank_below p difs below r d.0 ∙ part.is_rank; height = part.height }))
+    at_rank P r does none below below' h d.2 (λ u u' part. next u u' (record { wires = part.wires; is_rank = rank_below p difs below r d.0 ∙ part.is_rank; height = part.height; stands = λ v. part.stands v.1 }))
 at_rank P r does none (Wires a) (Rank' p difs below) h d next = absurd d
 at_rank P r does none (Rank' p difs below) (Wires a) h d next = absurd d
 

@@ -1,6 +1,6 @@
 -- What the calls do to one wire keeps a property of it; so does each call on wires.
-use Rattle.std.proofs.Common.{◌≡◌, ℕ, ◌+◌, Bool, false, List, map, slice_get, Some, None, Option, option_map, IsSome, Result, Ok, Err, refl, sym, ◌∙◌, subst, inl, inr}
-use Rattle.std.proofs.lemmas.Option.{slice_get-map}
+use Rattle.std.proofs.Common.{◌≡◌, ℕ, ◌+◌, Bool, false, List, [], ◌∷◌, map, slice_get, Some, None, Option, option_and_then, option_map, IsSome, Result, Ok, Err, cond, true, refl, sym, ◌∙◌, subst, inl, inr}
+use Rattle.std.proofs.lemmas.Option.{none-some, same_Some, slice_get-map}
 use Rattle.rina_base.specs.declared.number.Num.{Num}
 use Rattle.rina_base.specs.declared.number.Port.{Port}
 use Rattle.rina_iface.specs.declared.ask.Ask.{Ask}
@@ -13,12 +13,13 @@ use Rattle.rina_iface.specs.declared.error.SendError.{SendError}
 use Rattle.rina_iface.specs.declared.error.SendError.TheVariants as sends
 use Rattle.rina_iface.specs.declared.error.UnregisterError.{UnregisterError}
 use Rattle.rina_iface.specs.declared.error.UnregisterError.TheVariants as unregister
+use Rattle.rina_iface.specs.Allocate.{refused_in, unless_offered}
 use Rattle.rina_iface.specs.Ends.{place_in}
 use Rattle.rina_iface.specs.Journal.{At}
-use Rattle.rina_iface.specs.Seen.{oldest_in, unpassed}
+use Rattle.rina_iface.specs.Seen.{Offer, is_member, offered, oldest_in, unpassed}
 use Rattle.rina_iface.proofs.Changed.{all_at, set_at}
-use Rattle.rina_wire.specs.Air.{Air, Line, on_end, on_wire, put, put_at, put_end, seen_of, wire_at}
-use Rattle.rina_wire.specs.Allocate.{AllocatesOn, flow_made}
+use Rattle.rina_wire.specs.Air.{Air, Line, fac_of, offer_of, on_end, on_wire, put, put_at, put_end, seen_of, wire_at}
+use Rattle.rina_wire.specs.Allocate.{AllocatesOn, flow_made, flow_refusal}
 use Rattle.rina_wire.specs.Claim.{ClaimsOn, without}
 use Rattle.rina_wire.specs.Register.{RegistersOn, named}
 use Rattle.rina_wire.specs.Send.{SendsOn, passed, passed_at, sent_from}
@@ -35,6 +36,7 @@ use Rattle.rina_wire.proofs.SoundTick.{sound_ticks}
 use Rattle.rina_wire.specs.Cut.{MendsOn, mended}
 use Rattle.rina_wire.specs.declared.event.WireError.{WireError}
 use Rattle.rina_wire.proofs.SoundCut.{sound_mends}
+use Rattle.rina_laws.proofs.NamedNames.{IsDone}
 use Rattle.rina_laws.proofs.WiresAt.{Keeps}
 
 -- one wire, where it is there, has this property at this tick
@@ -46,11 +48,10 @@ pub record HasWire (Q : ℕ → Line → Type 0) (fac : ℕ) (a : Air) : Type 0 
   pub sound : IsSound a
   pub holds : OnWire Q fac a
 
--- what the calls do to a sound wire keeps the property of it
+-- what the calls do to a sound wire keeps the property of it; of a name that is registered that is said of each call
 pub record KeepsLine (Q : ℕ → Line → Type 0) : Type 0 where
-  pub named : (now node : ℕ) (app : List ℕ) (l : Line) → Q now l → Q now (named node app l)
   pub unnamed : (now node : ℕ) (app : List ℕ) (l : Line) → Q now l → Q now (unnamed node app l)
-  pub flow : (now : ℕ) (ask : Ask) (l : Line) → Q now l → Q now (flow_made now ask l)
+  pub flow : (now : ℕ) (ask : Ask) (l : Line) → flow_refusal l ask ≡ None → Q now l → Q now (flow_made now ask l)
   pub claimed : (now : ℕ) (l : Line) (o : Option ℕ) → Q now l → Q now (without l o)
   pub sent : (now : ℕ) (failed : Bool) (fac : ℕ) (bytes : List ℕ) (l : Line) (i : ℕ) (e : End) → IsSoundLine l → KeepsFlows now failed fac l → failed ≡ false → At l.ends i e → Q now l → Q now (sent_from now bytes l i e)
   pub passed : (now : ℕ) (l : Line) (i : ℕ) (e : End) → At l.ends i e → Q now l → Q now (passed_at l i e)
@@ -78,20 +79,39 @@ carry_end Q fac a port change c keep = carry_wire Q fac a port.fac (λ (l : Line
 
 -- ---- register
 
-carry_registers : (Q : ℕ → Line → Type 0) (kept : KeepsLine Q) (fac : ℕ) (a : Air) (wire node : ℕ) (app : List ℕ) (r : Result (Unit {0}) RegisterError) (a' : Air) → OnWire Q fac a → RegistersOn a wire node app r a' → OnWire Q fac a'
-carry_registers Q kept fac a wire node app (Ok done) a' c g = subst (OnWire Q fac) (sym g.air) (carry_wire Q fac a wire (named node app) c (λ l same h d. kept.named a.now node app l d))
-carry_registers Q kept fac a wire node app (Err names.Memory) a' c g = subst (OnWire Q fac) (sym g) c
-carry_registers Q kept fac a wire node app (Err names.Already) a' c g = subst (OnWire Q fac) (sym g.air) c
-carry_registers Q kept fac a wire node app (Err names.NoMember) a' c g = subst (OnWire Q fac) (sym g.air) c
-carry_registers Q kept fac a wire node app (Err (names.CountSpent n m)) a' c g = subst (OnWire Q fac) (sym g.air) c
+-- a name that is registered keeps the property of the wire
+abbrev pub NameKeeps : (ℕ → Line → Type 0) → ℕ → Air → (wire node : ℕ) (app : List ℕ) → Result (Unit {0}) RegisterError → Type 0
+NameKeeps Q fac a wire node app r = wire ≡ fac → IsDone r → (l : Line) → Q a.now l → Q a.now (named node app l)
 
-keeps_registers : (Q : ℕ → Line → Type 0) (kept : KeepsLine Q) (fac : ℕ) (a : Air) (wire node : ℕ) (app : List ℕ) (r : Result (Unit {0}) RegisterError) (a' : Air) → HasWire Q fac a → RegistersOn a wire node app r a' → HasWire Q fac a'
-keeps_registers Q kept fac a wire node app r a' c g = record { sound = sound_registers a wire node app r a' c.sound g; holds = carry_registers Q kept fac a wire node app r a' c.holds g }
+carry_registers : (Q : ℕ → Line → Type 0) (fac : ℕ) (a : Air) (wire node : ℕ) (app : List ℕ) (r : Result (Unit {0}) RegisterError) (a' : Air) → NameKeeps Q fac a wire node app r → OnWire Q fac a → RegistersOn a wire node app r a' → OnWire Q fac a'
+carry_registers Q fac a wire node app (Ok done) a' kept c g = subst (OnWire Q fac) (sym g.air) (carry_wire Q fac a wire (named node app) c (λ l same h d. kept same tt l d))
+carry_registers Q fac a wire node app (Err names.Memory) a' kept c g = subst (OnWire Q fac) (sym g) c
+carry_registers Q fac a wire node app (Err names.Already) a' kept c g = subst (OnWire Q fac) (sym g.air) c
+carry_registers Q fac a wire node app (Err names.NoMember) a' kept c g = subst (OnWire Q fac) (sym g.air) c
+carry_registers Q fac a wire node app (Err (names.CountSpent n m)) a' kept c g = subst (OnWire Q fac) (sym g.air) c
+
+pub keeps_registers : (Q : ℕ → Line → Type 0) (fac : ℕ) (a : Air) (wire node : ℕ) (app : List ℕ) (r : Result (Unit {0}) RegisterError) (a' : Air) → NameKeeps Q fac a wire node app r → HasWire Q fac a → RegistersOn a wire node app r a' → HasWire Q fac a'
+keeps_registers Q fac a wire node app r a' kept c g = record { sound = sound_registers a wire node app r a' c.sound g; holds = carry_registers Q fac a wire node app r a' kept c.holds g }
 
 -- ---- allocate
 
+own_offered : (o : Option Offer) (own : Option AllocateError) → unless_offered o own ≡ None → own ≡ None
+own_offered None own h = absurd (none-some asks.NoCube (sym h))
+own_offered (Some x) own h = h
+
+own_of : (l : Line) (ask : Ask) (own : Option AllocateError) → refused_in (Some (fac_of l)) ask own ≡ None → own ≡ None
+own_of l ask own h = elim (is_member (l.a ∷ l.b ∷ []) ask.node) as (λ b. cond b (unless_offered (offered (offer_of l ∷ []) ask.want) own) (Some asks.NoMember) ≡ None → own ≡ None) [
+  | true ↦ own_offered (offered (offer_of l ∷ []) ask.want) own
+  | false ↦ λ g. absurd (none-some asks.NoMember (sym g))
+] h
+
+-- a wire refuses nothing where its facility does not
+not_refused : (a : Air) (ask : Ask) (l : Line) (o : Option Line) → o ≡ Some l → refused_in (option_map fac_of o) ask (option_and_then (λ (x : Line). flow_refusal x ask) o) ≡ None → flow_refusal l ask ≡ None
+not_refused a ask l None is h = cc
+not_refused a ask l (Some m) is h = subst (λ (x : Line). flow_refusal x ask ≡ None) (same_Some m l is) (own_of m ask (flow_refusal m ask) h)
+
 carry_allocates : (Q : ℕ → Line → Type 0) (kept : KeepsLine Q) (fac : ℕ) (a : Air) (ask : Ask) (r : Result Port AllocateError) (a' : Air) → OnWire Q fac a → AllocatesOn a ask r a' → OnWire Q fac a'
-carry_allocates Q kept fac a ask (Ok port) a' c g = subst (OnWire Q fac) (sym g.goes.air) (carry_wire Q fac a ask.fac (flow_made a.now ask) c (λ l same h d. kept.flow a.now ask l d))
+carry_allocates Q kept fac a ask (Ok port) a' c g = subst (OnWire Q fac) (sym g.goes.air) (carry_wire Q fac a ask.fac (flow_made a.now ask) c (λ l same h d. kept.flow a.now ask l (not_refused a ask l (wire_at a ask.fac) h g.goes.refused) d))
 carry_allocates Q kept fac a ask (Err asks.Memory) a' c g = subst (OnWire Q fac) (sym g) c
 carry_allocates Q kept fac a ask (Err asks.NoMember) a' c g = subst (OnWire Q fac) (sym g.air) c
 carry_allocates Q kept fac a ask (Err asks.NoCube) a' c g = subst (OnWire Q fac) (sym g.air) c
@@ -173,7 +193,6 @@ keeps_mends Q kept fac a wire r a' c g = record { sound = sound_mends a wire r a
 
 pub keeps_wire : (Q : ℕ → Line → Type 0) → KeepsLine Q → (fac : ℕ) → Keeps (HasWire Q fac)
 keeps_wire Q kept fac = record {
-  registers = keeps_registers Q kept fac;
   unregisters = keeps_unregisters Q kept fac;
   allocates = keeps_allocates Q kept fac;
   claims = keeps_claims Q kept fac;

@@ -39,9 +39,8 @@ claimed w now l (Some at) h = h
 
 calls : (w : WirePlan) → KeepsLine (Laid w)
 calls w = record {
-  named = λ now node app l h. h;
   unnamed = λ now node app l h. h;
-  flow = λ now ask l h. h;
+  flow = λ now ask l free h. h;
   claimed = claimed w;
   sent = λ now failed fac bytes l i e line flows alive at h. h;
   passed = λ now l i e at h. h;
@@ -89,11 +88,11 @@ laid_at plan shelf start fac w o planned l wire =
 pub wires_stay : WiresStayAsPlanned
 wires_stay plan shelf start lines ns s o d fac w l planned wire =
     let begins : Holds (HasWire (Laid w) fac) start.run.tower = record { sound = wires_sound start.run.tower o.stands; holds = laid_at plan shelf start fac w o planned } in
-    (runs_keep (Laid w) (calls w) (happens w) fac plan 1 start lines ns s d begins).holds l wire
+    (runs_keep (Laid w) (calls w) (λ now node app l h. h) (happens w) fac plan 1 start lines ns s d begins).holds l wire
 
 pub wires_draw : WiresDrawByFrames
 wires_draw plan shelf start lines ns s o d fac w l planned wire =
     let begins : Holds (HasWire (Laid w) fac) start.run.tower = record { sound = wires_sound start.run.tower o.stands; holds = laid_at plan shelf start fac w o planned } in
-    let sound : IsSound (wires_of s.run.tower) = (runs_keep (Laid w) (calls w) (happens w) fac plan 1 start lines ns s d begins).sound in
+    let sound : IsSound (wires_of s.run.tower) = (runs_keep (Laid w) (calls w) (λ now node app l h. h) (happens w) fac plan 1 start lines ns s d begins).sound in
     let line : IsSoundLine l = all_at IsSoundLine (wires_of s.run.tower).wires fac l sound.lines wire in
     line.draws ∙ ap (λ (x : Option Storm). draws_at x l.frames) (wires_stay plan shelf start lines ns s o d fac w l planned wire).5

@@ -1,5 +1,5 @@
--- What each call keeps of wires, each word of a schedule keeps, but for those that touch a frame or end a flow.
-use Rattle.std.proofs.Common.{◌≡◌, ℕ, zero, suc, ◌+◌, nat_lt, Bool, true, false, ◌||◌, List, Some, None, Option, Result, Ok, Err, refl, sym, subst, inl, inr}
+-- What each call keeps of wires, each word of a schedule keeps, but for those that touch a frame, end a flow or register a name.
+use Rattle.std.proofs.Common.{◌≡◌, ℕ, zero, suc, ◌+◌, nat_lt, Bool, true, false, ◌||◌, List, slice_get, Some, None, Option, Result, Ok, Err, refl, sym, ◌∙◌, subst, inl, inr}
 use Rattle.rina_base.specs.declared.number.Port.{Port}
 use Rattle.rina_cube.specs.declared.Want.{Want}
 use Rattle.rina_data.specs.declared.step.StepError.TheVariants.{NoIpc}
@@ -22,21 +22,28 @@ use Rattle.rina_schedule.specs.declared.event.Event.TheVariants as events
 use Rattle.rina_stack.specs.declared.plan.Plan.{Plan}
 use Rattle.rina_stack.specs.Names.{place_in}
 use Rattle.rina_tower.specs.declared.tower.Tower.{Tower, Rank', Wires}
-use Rattle.rina_tower.specs.Applications.{is_ipc_at}
+use Rattle.rina_tower.specs.declared.applications.AppError.{AppError}
+use Rattle.rina_tower.specs.declared.applications.AppError.TheVariants as apps
+use Rattle.rina_tower.specs.declared.publish.PublishError.{PublishError}
+use Rattle.rina_tower.specs.declared.publish.PublishError.TheVariants.{NoIpc as NoneToPublish, Lower}
+use Rattle.rina_tower.specs.Applications.{Answers, is_ipc_at}
 use Rattle.rina_tower.specs.Cdap.{AsksAtTop}
-use Rattle.rina_tower.specs.Bystanders.{is_ipc}
+use Rattle.rina_tower.specs.Bystanders.{IsIpc, is_ipc}
 use Rattle.rina_tower.specs.Calls.{AllocatesAtTop, ClaimsAtTop, FreesAtTop, RegistersAtTop, SendsAtTop, UnregistersAtTop}
 use Rattle.rina_tower.specs.Enrolling.{EnrolsAtTop}
 use Rattle.rina_tower.specs.Events.{Cuts, HoldsBack, Loses, Mends, Repeats}
 use Rattle.rina_tower.specs.Levels.{AtWires}
-use Rattle.rina_tower.specs.Ranks.{now_of, seen_of}
+use Rattle.rina_tower.specs.Publishing.{PublishesAtTop, RegistersIpc, ipc_name_at}
+use Rattle.rina_tower.specs.Ranks.{height_of, now_of, seen_of}
 use Rattle.rina_tower.specs.Rounds.{Anything}
+use Rattle.rina_tower.specs.Stands.{IsTower}
 use Rattle.rina_tower.specs.Steps.{InStepsAtTop, OutStepsAtTop}
 use Rattle.rina_wire.specs.declared.event.WireError.{WireError}
 use Rattle.rina_wire.specs.Air.{Air}
 use Rattle.rina_wire.specs.Cut.{CutsOn, MendsOn}
 use Rattle.rina_wire.specs.Disturb.{HoldsOn, LosesOn, RepeatsOn}
 use Rattle.rina_wire.specs.Free.{FreesOn}
+use Rattle.rina_wire.specs.Register.{RegistersOn}
 use Rattle.rina_notes.specs.declared.facility.RankedFac.{RankedFac}
 use Rattle.rina_notes.specs.declared.label.Label.{Label}
 use Rattle.rina_notes.specs.declared.site.Site.{Site}
@@ -47,7 +54,9 @@ use Rattle.rina_words.specs.Step.{Accounting, Acts, ActsOnRun, AtField, AtPort, 
 use Rattle.rina_laws.specs.Frames.{wires_of}
 use Rattle.rina_laws.specs.SomeStep.{SomeOfTicking, SomeOfTicks, SomeOfWord}
 use Rattle.rina_laws.proofs.Enrolled.{enrol_asks}
-use Rattle.rina_laws.proofs.Published.{MayRegister, published}
+use Rattle.rina_laws.proofs.NamedNames.{IsDone}
+use Rattle.rina_laws.proofs.NamedRun.{was_done}
+use Rattle.rina_laws.proofs.NamedSteps.{name_ipc}
 use Rattle.rina_laws.proofs.WiresAt.{Holds, IsPart, Keeps, KeepsClocks, at_app, at_claim, at_rank, at_wires, ins_here, outs_here, passes, round, rounds_by, tick}
 
 -- ---- where a word is refused before its call, nothing is done
@@ -69,12 +78,6 @@ at_field P field None Call w says w' h d next = subst (λ (v : Run). Holds P v.t
 at_field P field (Some n) Call w says w' h d next = next n d
 
 -- ---- calls of applications: at wires, or at a rank of DIFs, where nothing is done below
-
-registers_here : (P : Air → Type 0) (kept : Keeps P) (n node : ℕ) (app : List ℕ) (x : Result (Unit {0}) RegisterError) (u u' : Tower) → Holds P u → RegistersAtTop n node app x u u' → Holds P u'
-registers_here P kept n node app x (Wires a) (Wires a') h d = kept.registers a n node app x a' h d
-registers_here P kept n node app x (Rank' p difs below) (Rank' p' difs' below') h d = subst (Holds P) (sym d.1) h
-registers_here P kept n node app x (Wires a) (Rank' p difs below) h d = absurd d
-registers_here P kept n node app x (Rank' p difs below) (Wires a) h d = absurd d
 
 unregisters_here : (P : Air → Type 0) (kept : Keeps P) (n node : ℕ) (app : List ℕ) (x : Result (Unit {0}) UnregisterError) (u u' : Tower) → Holds P u → UnregistersAtTop n node app x u u' → Holds P u'
 unregisters_here P kept n node app x (Wires a) (Wires a') h d = kept.unregisters a n node app x a' h d
@@ -99,9 +102,6 @@ sends_here P kept port bytes x (Wires a) (Wires a') h d = kept.sends a port byte
 sends_here P kept port bytes x (Rank' p difs below) (Rank' p' difs' below') h d = subst (Holds P) (sym d.1) h
 sends_here P kept port bytes x (Wires a) (Rank' p difs below) h d = absurd d
 sends_here P kept port bytes x (Rank' p difs below) (Wires a) h d = absurd d
-
-registers : (P : Air → Type 0) (kept : Keeps P) (app : List ℕ) (w : Run) (site : Site) (says : Option Answer) (w' : Run) → Holds P w.tower → CallsRegister app w site says w' → Holds P w'.tower
-registers P kept app w site says w' h c = at_app P site.rank (λ u. is_ipc app) (RegistersAtTop site.fac site.node app) c.result w.tower w'.tower h c.does (λ u u' part x g e. registers_here P kept site.fac site.node app x u u' g e)
 
 unregisters : (P : Air → Type 0) (kept : Keeps P) (app : List ℕ) (w : Run) (site : Site) (says : Option Answer) (w' : Run) → Holds P w.tower → CallsUnregister app w site says w' → Holds P w'.tower
 unregisters P kept app w site says w' h c = at_app P site.rank (λ u. is_ipc app) (UnregistersAtTop site.fac site.node app) c.result w.tower w'.tower h c.does (λ u u' part x g e. unregisters_here P kept site.fac site.node app x u u' g e)
@@ -153,13 +153,59 @@ pub freeing : (P : Air → Type 0) (o : Option (ℕ × Port)) (w : Run) (says : 
 freeing P None w says w' h d next = subst (λ (v : Run). Holds P v.tower) (sym d.run) h
 freeing P (Some p) w says w' h d next = at_app P p.0 (λ u. is_ipc_at (seen_of u) p.1) (FreesAtTop p.1) d.result w.tower w'.tower h d.does (λ u u' part x g e. frees_here P w.tower p.0 p.1 x u u' part (λ a' low held does. next p.0 p.1 x a' refl low held does) g e)
 
--- what has to be shown of a word that touches a frame, or ends a flow
+-- ---- names that are registered: of the wires it is known what that does
+
+-- a name is registered at a rank over these wires; at a rank of DIFs nothing is done below
+registers_here : (P : Air → Type 0) (t : Tower) (n node : ℕ) (app : List ℕ) (x : Result (Unit {0}) RegisterError) (u u' : Tower) → wires_of u ≡ wires_of t → Holds P u → RegistersAtTop n node app x u u' → ((a' : Air) → height_of u ≡ 0 → Holds P t → RegistersOn (wires_of t) n node app x a' → P a') → Holds P u'
+registers_here P t n node app x (Wires a) (Wires a') same h d next = next a' refl (subst P same h) (subst (λ (z : Air). RegistersOn z n node app x a') same d)
+registers_here P t n node app x (Rank' p difs below) (Rank' p' difs' below') same h d next = subst (Holds P) (sym d.1) h
+registers_here P t n node app x (Wires a) (Rank' p difs below) same h d next = absurd d
+registers_here P t n node app x (Rank' p difs below) (Wires a) same h d next = absurd d
+
+-- an application's name, by its line
+name_answered : (P : Air → Type 0) (t : Tower) (ipc : Bool) (rank n node : ℕ) (app : List ℕ) (r : Result (Unit {0}) (AppError RegisterError)) (u u' : Tower) → IsPart t rank u → Holds P u → Answers ipc (λ x. RegistersAtTop n node app x u u') (u' ≡ u) r → ((x : Result (Unit {0}) RegisterError) (a' : Air) → (IsDone x → IsDone r) → rank ≡ 0 → Holds P t → RegistersOn (wires_of t) n node app x a' → P a') → Holds P u'
+name_answered P t ipc rank n node app (Ok done) u u' part h d next = registers_here P t n node app (Ok done) u u' part.wires h d.1 (λ a' low. next (Ok done) a' (λ x. x) (part.height ∙ low))
+name_answered P t ipc rank n node app (Err (apps.Call e)) u u' part h d next = registers_here P t n node app (Err e) u u' part.wires h d.1 (λ a' low. next (Err e) a' (λ x. absurd x) (part.height ∙ low))
+name_answered P t ipc rank n node app (Err apps.NotYours) u u' part h d next = subst (Holds P) (sym d.1) h
+name_answered P t ipc rank n node app (Err apps.NoRank) u u' part h d next = absurd d
+
+pub registering : (P : Air → Type 0) (app : List ℕ) (o : Result Site ℕ) (w : Run) (says : Option Answer) (w' : Run) → Holds P w.tower → AtSite o (CallsRegister app w) w says w' → ((site : Site) (x : Result (Unit {0}) RegisterError) (a' : Air) → o ≡ Ok site → site.rank ≡ 0 → (IsDone x → says ≡ Some Done) → Holds P w.tower → RegistersOn (wires_of w.tower) site.fac site.node app x a' → P a') → Holds P w'.tower
+registering P app (Err field) w says w' h d next = subst (λ (v : Run). Holds P v.tower) (sym d.run) h
+registering P app (Ok site) w says w' h d next =
+    at_rank P site.rank (λ u u'. Answers (is_ipc app) (λ x. RegistersAtTop site.fac site.node app x u u') (u' ≡ u) d.result) (d.result ≡ Err apps.NoRank) w.tower w'.tower h d.does (λ u u' part g e.
+    name_answered P w.tower (is_ipc app) site.rank site.fac site.node app d.result u u' part g e (λ x a' done low held does. next site x a' refl low (λ ok. d.told ∙ was_done d.result (done ok)) held does))
+
+-- an IPC process's name, where it is published
+ipc_registers : (P : Air → Type 0) (o : Option (List ℕ)) (n node : ℕ) (x : Result (Unit {0}) PublishError) (b b' : Tower) → Holds P b → RegistersIpc o n node x b b' → ((name : List ℕ) (y : Result (Unit {0}) RegisterError) → o ≡ Some name → RegistersAtTop n node name y b b' → Holds P b') → Holds P b'
+ipc_registers P None n node x b b' h d next = subst (Holds P) (sym d.1) h
+ipc_registers P (Some name) n node (Ok done) b b' h d next = next name (Ok done) refl d
+ipc_registers P (Some name) n node (Err (Lower e)) b b' h d next = next name (Err e) refl d
+ipc_registers P (Some name) n node (Err NoneToPublish) b b' h d next = absurd d
+
+publishes_here : (P : Air → Type 0) (t : Tower) (rank dif node n : ℕ) (x : Result (Unit {0}) PublishError) (u u' : Tower) → IsPart t rank u → Holds P u → PublishesAtTop dif node n x u u' → ((name : List ℕ) (y : Result (Unit {0}) RegisterError) (a' : Air) → (IsTower t → IsIpc name) → Holds P t → RegistersOn (wires_of t) n node name y a' → P a') → Holds P u'
+publishes_here P t rank dif node n x (Wires a) (Wires a') part h d next = subst P (sym d.1) h
+publishes_here P t rank dif node n x (Rank' p difs below) (Rank' p' difs' below') part h d next =
+    ipc_registers P (ipc_name_at difs dif node) n node x below below' h d.1 (λ name y is e.
+    registers_here P t n node name y below below' part.wires h e (λ a' low held does. next name y a' (λ v. name_ipc node p difs below dif (slice_get difs dif) name (part.stands v) refl is) held does))
+publishes_here P t rank dif node n x (Wires a) (Rank' p difs below) part h d next = absurd d
+publishes_here P t rank dif node n x (Rank' p difs below) (Wires a) part h d next = absurd d
+
+pub publishing : (P : Air → Type 0) (plan : Plan) (dif node fac : List ℕ) (w : Run) (says : Option Answer) (w' : Run) → Holds P w.tower → AtSite (dif_site_at plan dif node) (λ site. AtField 3 (number_below site.rank (fac_named plan fac)) (CallsPublish w site) w) w says w' → ((n place : ℕ) (name : List ℕ) (y : Result (Unit {0}) RegisterError) (a' : Air) → (IsTower w.tower → IsIpc name) → Holds P w.tower → RegistersOn (wires_of w.tower) n place name y a' → P a') → Holds P w'.tower
+publishing P plan dif node fac w says w' h d next =
+    at_site P (dif_site_at plan dif node) (λ site. AtField 3 (number_below site.rank (fac_named plan fac)) (CallsPublish w site) w) w says w' h d (λ site f.
+    at_field P 3 (number_below site.rank (fac_named plan fac)) (CallsPublish w site) w says w' h f (λ n c.
+    at_rank P site.rank (PublishesAtTop site.fac site.node n c.result) (c.result ≡ Err NoneToPublish) w.tower w'.tower h c.does (λ u u' part g e.
+    publishes_here P w.tower site.rank site.fac site.node n c.result u u' part g e (λ name y a' ipc held does. next n site.node name y a' ipc held does))))
+
+-- what has to be shown of a word that touches a frame, ends a flow or registers a name
 abbrev pub Special : (Air → Type 0) → Event → Run → Type 0
 Special P (events.Lose wire frame) w' = Holds P w'.tower
 Special P (events.Repeat wire frame at) w' = Holds P w'.tower
 Special P (events.Hold wire frame at) w' = Holds P w'.tower
 Special P (events.Cut wire) w' = Holds P w'.tower
 Special P (events.Free label) w' = Holds P w'.tower
+Special P (events.Register name node app) w' = Holds P w'.tower
+Special P (events.Publish dif node fac) w' = Holds P w'.tower
 Special P event w' = Unit {0}
 
 -- ---- ticks
@@ -204,15 +250,6 @@ asks_here P n node bytes x (Rank' p difs below) (Wires a) h d = absurd d
 asking : (P : Air → Type 0) (bytes : List ℕ) (w : Run) (site : Site) (says : Option Answer) (w' : Run) → Holds P w.tower → CallsCdap bytes w site says w' → Holds P w'.tower
 asking P bytes w site says w' h c = at_rank P site.rank (AsksAtTop site.fac site.node bytes c.result) (c.result ≡ Err NoneThere) w.tower w'.tower h c.does (λ u u' part g d. asks_here P site.fac site.node bytes c.result u u' g d)
 
-may_register : (P : Air → Type 0) (kept : Keeps P) (n node : ℕ) (u u' : Tower) → Holds P u → MayRegister n node u u' → Holds P u'
-may_register P kept n node u u' h (inl d) = subst (Holds P) (sym d) h
-may_register P kept n node u u' h (inr (name, x, d)) = registers_here P kept n node name x u u' h d
-
-publishes : (P : Air → Type 0) (kept : Keeps P) (w : Run) (site : Site) (n : ℕ) (says : Option Answer) (w' : Run) → Holds P w.tower → CallsPublish w site n says w' → Holds P w'.tower
-publishes P kept w site n says w' h c =
-    let k = published site.rank site.fac site.node n c.result w.tower w'.tower c.does in
-    at_rank P k.rank (MayRegister n site.node) ⊥ w.tower w'.tower h k.done (λ u u' part g d. may_register P kept n site.node u u' g d)
-
 -- over wires a flow may be asked for; at a rank of DIFs over DIFs nothing is done below
 enrols_here : (P : Air → Type 0) (kept : Keeps P) (dif node n peer : ℕ) (x : Result (Unit {0}) EnrolError) (u u' : Tower) → Holds P u → EnrolsAtTop dif node n peer x u u' → Holds P u'
 enrols_here P kept dif node n peer x (Wires a) (Wires a') h d = subst P (sym d.1) h
@@ -241,7 +278,7 @@ AtClock N (events.Clock dif node) = N
 AtClock N event = Unit {0}
 
 words : (P : Air → Type 0) (kept : Keeps P) (Is : Tower → Tower → Type 0) (clock : KeepsClocks P Is) (plan : Plan) (line : ℕ) (event : Event) (w : Run) (ns : List Note) (w' : Run) → Special P event w' → AtClock (Is w.tower w'.tower → ⊥) event → Holds P w.tower → ActsOnRun plan line event w ns w' → Holds P w'.tower
-words P kept Is clock plan line (events.Register name node app) w ns w' special unspoilt h d = at_site P (site_at plan 1 name node) (CallsRegister app w) w d.says w' h d.does (λ site c. registers P kept app w site d.says w' h c)
+words P kept Is clock plan line (events.Register name node app) w ns w' special unspoilt h d = special
 words P kept Is clock plan line (events.Alloc label name node app to want) w ns w' special unspoilt h d =
     at_site P (site_at plan 2 name node) (λ site. Unlabelled (label_in w.labels label) (CallsAllocate plan label name node site.rank w (asked site app to want)) w) w d.says w' h d.does (λ site u.
     unlabelled P (label_in w.labels label) (CallsAllocate plan label name node site.rank w (asked site app to want)) w d.says w' h u (λ c. allocates P kept plan label name node app to want w site d.says w' h c))
@@ -264,9 +301,7 @@ words P kept Is clock plan line (events.Clock dif node) w ns w' special unspoilt
 words P kept Is clock plan line (events.Ledger dif node) w ns w' special unspoilt h d = accounting P plan line (dif_site_at plan dif node) w ns w' h d
 words P kept Is clock plan line (events.Cdap dif node bytes) w ns w' special unspoilt h d = at_site P (dif_site_at plan dif node) (CallsCdap bytes w) w d.says w' h d.does (λ site c. asking P bytes w site d.says w' h c)
 words P kept Is clock plan line (events.Rib dif node path) w ns w' special unspoilt h d = showing_rib P line path (dif_site_at plan dif node) w ns w' h d
-words P kept Is clock plan line (events.Publish dif node fac) w ns w' special unspoilt h d =
-    at_site P (dif_site_at plan dif node) (λ site. AtField 3 (number_below site.rank (fac_named plan fac)) (CallsPublish w site) w) w d.says w' h d.does (λ site u.
-    at_field P 3 (number_below site.rank (fac_named plan fac)) (CallsPublish w site) w d.says w' h u (λ n c. publishes P kept w site n d.says w' h c))
+words P kept Is clock plan line (events.Publish dif node fac) w ns w' special unspoilt h d = special
 words P kept Is clock plan line (events.Enrol dif node fac peer) w ns w' special unspoilt h d =
     let Call : Site → ℕ → ℕ → Option Answer → Run → Type 0 = CallsEnrol fac node w in
     at_site P (dif_site_at plan dif node) (λ site. AtField 3 (number_below site.rank (fac_named plan fac)) (λ n. AtField 4 (place_in plan.nodes peer) (Call site n) w) w) w d.says w' h d.does (λ site u.

@@ -7,3 +7,7 @@ pub mod WiresPlanned
 pub mod Written
 pub mod Named
 pub mod SomeStep
+pub mod Messages
+pub mod Known
+pub mod WireNames
+pub mod Endings

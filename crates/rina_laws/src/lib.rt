@@ -3,11 +3,15 @@
 
 ghost use Rattle.rina_laws.specs.Planned.{RoutesAsPlanned, StaysAsPlanned};
 ghost use Rattle.rina_laws.specs.Cuts.{FailuresAreCuts};
+ghost use Rattle.rina_laws.specs.Endings.{CausesAreOfOneStatus, GrammaticalRunsAreDone, RunsEndForTheirCause, UseIsBounded};
 ghost use Rattle.rina_laws.specs.Frames.{FramesArriveOnce, GiveUpsEmptyOneWire};
 ghost use Rattle.rina_laws.specs.Labels.{GotIsTold, SentIsTold};
+ghost use Rattle.rina_laws.specs.Known.{AskedAreRegistered, EntriesAreRegistered, FarAreRegistered, KnownAreRegistered};
+ghost use Rattle.rina_laws.specs.Messages.{AsksAreAlone, AsksAreAwaited, MessagesHaveEnds};
 ghost use Rattle.rina_laws.specs.Named.{NamesAreRegistered};
 ghost use Rattle.rina_laws.specs.SomeStep.{FarEndsAreAskedFor, LinesHaveCauses};
 ghost use Rattle.rina_laws.specs.Starts.{DifsStartUntouched, WiresStartAsPlanned};
+ghost use Rattle.rina_laws.specs.WireNames.{WireFlowsAreToNames, WireNamesAreRegistered};
 ghost use Rattle.rina_laws.specs.WiresPlanned.{WiresDrawByFrames, WiresStayAsPlanned};
 
 /// Before the first line of a run its wires are those of the stack, with their delays, none of them cut and no frame sent, but
@@ -95,6 +99,17 @@ pub fn each_name_was_registered()
     ensures { NamesAreRegistered }
 {}
 
+/// After any run from its opening each name that stands registered at a node of a wire, and that is no IPC process's, was registered
+/// by a line `register` of the schedule, for that application at that node of that wire, whose `ok` stands among the notes of the
+/// run with a tick that has come; or it is there since the opening. And each asker's end of a flow of a wire that is not there since
+/// the opening asks for an application that was registered so at the other node of the wire, no later than the tick of the flow's
+/// name; but where it asks for an IPC process, or for a name of the opening. So each flow of a wire that an application asked for
+/// was to a registered name.
+pub fn each_wire_flow_was_to_a_registered_name()
+    ensures names { WireNamesAreRegistered }
+    ensures flows { WireFlowsAreToNames }
+{}
+
 /// After any run from its opening each far end of a flow of a DIF of any rank that is not there since the opening was made in one
 /// of the steps of the run: a step of a round, or a line `in`. No end stood at its place before that step. In the step a member
 /// of the DIF took a message that asks for the flow: of its name and cube, for the application at the far end, by that at the
@@ -104,4 +119,61 @@ pub fn each_name_was_registered()
 /// end. So no far end was made of an application that was not registered there, or to which the rules then denied the asker.
 pub fn each_far_end_was_asked_for()
     ensures { FarEndsAreAskedFor }
+{}
+
+/// After any run from its opening, in each DIF of each rank in which no allocation has failed: each live directory entry, be it kept by a
+/// member or on its way to one, was made of an application that a line `register` of the schedule registered at the node of the member
+/// whose address the entry has, and whose `ok` stands among the notes of the run with a tick of at most that of the entry's version; or
+/// it is an IPC process's, or was there at the opening. So each application that a member finds in its directory at an address, and that is
+/// no IPC process, was registered at the member of this address by now, or has had an entry with it there since the opening. And each
+/// asker's end of a flow that is not there since the opening asks for an application that was registered so at the member to which its
+/// connection leads, no later than the tick of the flow's name; but where it asks for an IPC process. Each far end of a flow of which no end
+/// is there since the opening is that of an application that a line `register` registered at its node, whose `ok` stands among the notes
+/// with a tick of at most that of the flow's name; or of one that has had an entry at its member since the opening, or of an IPC process.
+pub fn each_known_application_was_registered()
+    ensures entries { EntriesAreRegistered }
+    ensures known { KnownAreRegistered }
+    ensures asked { AskedAreRegistered }
+    ensures far { FarAreRegistered }
+{}
+
+/// After any run from its opening, in each DIF of each rank in which no allocation has failed, each message about a flow has the end that
+/// it tells of: of each ask the asker's end stands in the journal of the DIF, with the name, the applications and the cube of the ask, and
+/// its connection has the addresses and the CEP-id; of each yes a far end stands, with the addresses and its CEP-id. The messages are
+/// those that wait at the members and those that are on the links of the DIF.
+pub fn messages_about_flows_have_their_ends()
+    ensures { MessagesHaveEnds }
+{}
+
+/// After any run from its opening, in each DIF of each rank in which no allocation has failed, the asks for a flow that wait at the
+/// members or are on the links, and the far ends of the flow, are no more than the askers' ends, of which a flow has one. So one ask for it
+/// at most is on its way, and while it is the flow has no far end.
+pub fn one_ask_for_a_flow_is_on_its_way()
+    ensures { AsksAreAlone }
+{}
+
+/// After any run from its opening, in each DIF of each rank in which no allocation has failed, of each ask for a flow that a member made,
+/// told by the member's address and the invoke id that it drew, one message at most is on its way: the ask, or its answer. Of each
+/// ask that waits for its answer the end stands, and what is on its way with its invoke id is of its own flow: the ask is for this
+/// flow, and a yes tells of the far end of this flow, which stands; both have the CEP-id that the member drew. So a yes allocates
+/// the end that asked for the flow, and no other.
+pub fn each_answer_is_that_of_its_ask()
+    ensures { AsksAreAwaited }
+{}
+
+/// Each call of `run` ends with a status that has its cause, by the clauses `outcome`, `read` and `write` of `run`. `Usage` comes
+/// where the words are no command, with the place. `Done` says that the input was read to its end, the stack is accepted and each
+/// line is inside the grammar; `NotToml` and `StackRule` that the stack is not accepted, for this; `Schedule` that the last line
+/// that was used is the first outside the grammar; `TooLarge` and `ReadFault` that reading broke off by this, with nothing in what
+/// was used that would have ended the run before. `ReadFault` comes with one read that failed, `WriteFault` with one write, and
+/// each status but these and `Memory` where none failed. An allocation may fail anywhere.
+///
+/// What was read is the cause of one status at most. So where a cause stands, its status comes, unless a write or an allocation
+/// failed. An input of at most 16,777,216 bytes, whose stack is accepted and whose lines are inside the grammar, is done, unless a
+/// read, a write or an allocation fails; and of any input no more bytes than these are used.
+pub fn each_run_ends_for_its_cause()
+    ensures ended { RunsEndForTheirCause }
+    ensures one { CausesAreOfOneStatus }
+    ensures done { GrammaticalRunsAreDone }
+    ensures bounded { UseIsBounded }
 {}

@@ -1,10 +1,9 @@
 //! What a RIB answers to CDAP messages.
 use rina_answer::answer;
-use rina_base::{Bytes, Memory, Name, NameError, read_decimal};
+use rina_base::{Bytes, Memory, Name, read_decimal};
 use rina_cdap::Message;
 use rina_rib::Rib;
 use std::alloc::Global;
-use std::test::Fail;
 
 /// A request to read the object `/user`, with invoke id 1.
 const REQUEST: [u8; 19] = [
@@ -82,26 +81,26 @@ fn number(word: Option<&str>) -> Option<u8> {
     Some(number as u8)
 }
 
-fn copied(alloc: Global, name: Option<&[u8]>) -> Result<Option<Bytes>, Memory> {
+/// Gives a request its name, where it has one.
+fn add_name(alloc: Global, m: &mut Message, name: Option<&[u8]>) -> bool {
     match name {
-        Some(name) => Ok(Some(Bytes::copy_of(alloc, name)?)),
-        None => Ok(None),
+        Some(name) => {
+            m.name = Bytes::copy_of(alloc, name).ok();
+            m.name.is_some()
+        }
+        None => true,
     }
 }
 
-fn class_of(alloc: Global, class: Option<&[u8]>) -> Result<Option<Name>, NameError> {
+/// Gives a request its class, where it has one.
+fn add_class(alloc: Global, m: &mut Message, class: Option<&[u8]>) -> bool {
     match class {
-        Some(class) => Ok(Some(Name::read(alloc, class)?)),
-        None => Ok(None),
+        Some(class) => {
+            m.class = Name::read(alloc, class).ok();
+            m.class.is_some()
+        }
+        None => true,
     }
-}
-
-/// A request of an operation.
-fn request(operation: u8, name: Option<Bytes>, class: Option<Name>) -> Message {
-    let mut m = Message::new(operation, 0);
-    m.name = name;
-    m.class = class;
-    m
 }
 
 /// Whether a request has this result.
@@ -112,45 +111,37 @@ fn results(alloc: Global, rib: &mut Rib, m: &Message, wanted: Option<u8>) -> boo
     }
 }
 
-/// Whether a request of an operation, a name and a class has this result.
-fn comes(
-    alloc: Global,
-    rib: &mut Rib,
-    operation: u8,
-    name: Option<&[u8]>,
-    class: Option<&[u8]>,
-    wanted: Option<u8>,
-) -> Result<bool, Fail> {
-    let name = copied(alloc, name)?;
-    let class = class_of(alloc, class)?;
-    let m = request(operation, name, class);
-    Ok(results(alloc, rib, &m, wanted))
-}
-
 /// Whether the result that a line names comes.
-fn line_comes(alloc: Global, rib: &mut Rib, line: &str) -> Result<bool, Fail> {
+fn line_comes(alloc: Global, rib: &mut Rib, line: &str) -> bool {
     let mut words = line.split_ascii_whitespace();
     let Some(operation) = number(words.next()) else {
-        return Ok(false);
+        return false;
     };
-    let name = given(words.next());
-    let class = given(words.next());
-    comes(alloc, rib, operation, name, class, number(words.next()))
+    let mut m = Message::new(operation, 0);
+    add_name(alloc, &mut m, given(words.next()))
+        && add_class(alloc, &mut m, given(words.next()))
+        && results(alloc, rib, &m, number(words.next()))
 }
 
 /// Whether each result comes.
-fn each_comes(alloc: Global, rib: &mut Rib) -> Result<bool, Fail> {
+fn each_comes(alloc: Global, rib: &mut Rib) -> bool {
     for line in ASKED.lines() {
-        if !line_comes(alloc, rib, line)? {
-            return Ok(false);
+        if !line_comes(alloc, rib, line) {
+            return false;
         }
     }
-    Ok(true)
+    true
+}
+
+/// Whether a new RIB answers so.
+fn all_come(alloc: Global) -> bool {
+    match Rib::new(alloc) {
+        Ok(mut rib) => folder_is_read(alloc, &mut rib) && each_comes(alloc, &mut rib),
+        Err(Memory) => false,
+    }
 }
 
 #[test]
-fn a_folder_is_read_and_each_result_comes(rt: HostRuntime) -> Result<(), Fail> {
-    let mut rib = Rib::new(rt.alloc())?;
-    assert!(rt; folder_is_read(rt.alloc(), &mut rib) && each_comes(rt.alloc(), &mut rib)?);
-    Ok(())
+fn a_folder_is_read_and_each_result_comes(rt: HostRuntime) {
+    assert!(rt; all_come(rt.alloc()));
 }

@@ -40,15 +40,13 @@ fn all_are_drawn(alloc: Global, ids: &mut Ids) -> bool {
     ids.draw(alloc, 3) == Err(NoIds::Used { used: 255 })
 }
 
-#[test]
-fn the_least_free_id_is_drawn(rt: HostRuntime) {
-    let mut ids = Ids::new(rt.alloc(), 4);
-    let drawn = least_are_drawn(rt.alloc(), &mut ids) && rested_are_free(&ids);
-    assert!(rt; drawn && rested_are_drawn(rt.alloc(), &mut ids));
+fn least_goes(alloc: Global, ids: &mut Ids) -> bool {
+    least_are_drawn(alloc, ids) && rested_are_free(ids) && rested_are_drawn(alloc, ids)
 }
 
 #[test]
-fn one_byte_has_255_ids(rt: HostRuntime) {
-    let mut ids = Ids::new(rt.alloc(), 1);
-    assert!(rt; all_are_drawn(rt.alloc(), &mut ids));
+fn the_least_free_id_is_drawn_and_one_byte_has_255(rt: HostRuntime) {
+    let mut ids = Ids::new(rt.alloc(), 4);
+    let mut short = Ids::new(rt.alloc(), 1);
+    assert!(rt; least_goes(rt.alloc(), &mut ids) && all_are_drawn(rt.alloc(), &mut short));
 }

@@ -156,33 +156,37 @@ enum Case {
     Walks,
 }
 
+static CASES: [Case; 4] = [Case::Service, Case::Value, Case::Refusals, Case::Walks];
+
+/// Whether a case goes so at a RIB.
+fn case_goes(alloc: Global, rib: &mut Rib, case: Case) -> bool {
+    match case {
+        Case::Service => service_goes(alloc, rib),
+        Case::Value => value_goes(alloc, rib),
+        Case::Refusals => refusals_go(alloc, rib),
+        Case::Walks => folders_are_made(alloc, rib) && walks_go(rib),
+    }
+}
+
 /// Whether a case goes so at a new RIB.
-fn goes(alloc: Global, case: Case) -> Result<bool, Memory> {
-    let mut rib = Rib::new(alloc)?;
-    Ok(match case {
-        Case::Service => service_goes(alloc, &mut rib),
-        Case::Value => value_goes(alloc, &mut rib),
-        Case::Refusals => refusals_go(alloc, &mut rib),
-        Case::Walks => folders_are_made(alloc, &mut rib) && walks_go(&rib),
-    })
+fn goes(alloc: Global, case: Case) -> bool {
+    match Rib::new(alloc) {
+        Ok(mut rib) => case_goes(alloc, &mut rib, case),
+        Err(Memory) => false,
+    }
+}
+
+/// Whether each case does.
+fn all_go(alloc: Global) -> bool {
+    for case in &CASES {
+        if !goes(alloc, *case) {
+            return false;
+        }
+    }
+    true
 }
 
 #[test]
-fn a_service_is_started_and_stopped(rt: HostRuntime) {
-    assert!(rt; goes(rt.alloc(), Case::Service) == Ok(true));
-}
-
-#[test]
-fn a_value_is_written(rt: HostRuntime) {
-    assert!(rt; goes(rt.alloc(), Case::Value) == Ok(true));
-}
-
-#[test]
-fn each_refusal_comes(rt: HostRuntime) {
-    assert!(rt; goes(rt.alloc(), Case::Refusals) == Ok(true));
-}
-
-#[test]
-fn a_walk_passes_what_is_under_a_name(rt: HostRuntime) {
-    assert!(rt; goes(rt.alloc(), Case::Walks) == Ok(true));
+fn objects_are_made_changed_walked_deleted_and_refused(rt: HostRuntime) {
+    assert!(rt; all_go(rt.alloc()));
 }

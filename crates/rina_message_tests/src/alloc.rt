@@ -5,7 +5,6 @@ use rina_alloc::{
 };
 use rina_base::{AppName, FlowName, Memory, NameError};
 use std::alloc::Global;
-use std::test::Fail;
 
 const YES: AskEvent = AskEvent::Answer {
     result: 0,
@@ -52,11 +51,6 @@ fn each_goes(alloc: Global) -> bool {
     goes(alloc, &BOUND, Some(pair)) && goes(alloc, &GIVEN_UP, None) && goes(alloc, &TOO_LATE, None)
 }
 
-#[test]
-fn an_ask_is_bound_and_given_up_in_time_or_too_late(rt: HostRuntime) {
-    assert!(rt; each_goes(rt.alloc()));
-}
-
 /// Whether the application is here, the ask is aged, the rule that denies it and the id that is drawn; the result, and the two numbers that are told with it.
 type Case = (bool, bool, Option<u32>, Option<u32>, u8, u32, u32);
 
@@ -89,19 +83,19 @@ fn is_answered(alloc: Global, case: Case) -> bool {
     asked.step(alloc, ask) == Ok(answer) && asked.bound.is_some() == (result == 0)
 }
 
-/// The place of the first case that is answered otherwise.
-fn first_other(alloc: Global) -> Option<usize> {
-    for (place, case) in CASES.iter().enumerate() {
+/// Whether each ask is answered as its case says.
+fn all_are_answered(alloc: Global) -> bool {
+    for case in &CASES {
         if !is_answered(alloc, *case) {
-            return Some(place);
+            return false;
         }
     }
-    None
+    true
 }
 
 #[test]
-fn an_ask_is_answered_by_the_first_that_applies(rt: HostRuntime) {
-    assert_eq!(rt; first_other(rt.alloc()), None);
+fn an_ask_is_bound_and_given_up_and_answered_by_the_first_that_applies(rt: HostRuntime) {
+    assert!(rt; each_goes(rt.alloc()) && all_are_answered(rt.alloc()));
 }
 
 fn ask(alloc: Global, destination: &[u8], source: &[u8]) -> Result<FlowAsk, NameError> {
@@ -134,23 +128,25 @@ aaaaaaaaaaaaaaaaaaaaaaaaaaaaaaaaaaaaaaaaaaaaaaaaaaaaaaaaaaaaaaaa";
 /// The place of the longest message, behind those of the table.
 const LONGEST: usize = 6;
 
+/// The word of an ask.
+fn word_of(ask: Result<FlowAsk, NameError>) -> Option<FlowWord> {
+    match ask {
+        Ok(ask) => Some(FlowWord::Ask { invoke: 1, ask }),
+        Err(_) => None,
+    }
+}
+
 /// What the message says whose bytes stand at a place of the table, or the longest one.
-fn word_at(alloc: Global, place: usize) -> Result<FlowWord, NameError> {
-    Ok(match place {
-        0 => FlowWord::Ask {
-            invoke: 1,
-            ask: ask(alloc, b"echo", b"ping")?,
-        },
-        1 => FlowWord::Delete { dcep: 5, scep: 3 },
-        2 => answer(FlowAnswer::Yes { dcep: 5, scep: 3 }),
-        3 => answer(FlowAnswer::Denied { rule: 2 }),
-        4 => answer(FlowAnswer::NotHere),
-        5 => answer(FlowAnswer::NoIds { used: 255 }),
-        _ => FlowWord::Ask {
-            invoke: 1,
-            ask: ask(alloc, LONGEST_NAME, LONGEST_NAME)?,
-        },
-    })
+fn word_at(alloc: Global, place: usize) -> Option<FlowWord> {
+    match place {
+        0 => word_of(ask(alloc, b"echo", b"ping")),
+        1 => Some(FlowWord::Delete { dcep: 5, scep: 3 }),
+        2 => Some(answer(FlowAnswer::Yes { dcep: 5, scep: 3 })),
+        3 => Some(answer(FlowAnswer::Denied { rule: 2 })),
+        4 => Some(answer(FlowAnswer::NotHere)),
+        5 => Some(answer(FlowAnswer::NoIds { used: 255 })),
+        _ => word_of(ask(alloc, LONGEST_NAME, LONGEST_NAME)),
+    }
 }
 
 /// The bytes of each message, with a bar between them.
@@ -162,36 +158,48 @@ const MESSAGES: &[u8] = b"\
 \x01\0\x01\x05\x02\0\x04\0\0\0\x01\x04\0\x05/flow\x06\0\x08\0\0\0\0\0\0\0\0\x07\0\x01\x02\x0b\0\x04\0\0\0\x02\x0c\0\x04\0\0\0\x01|\
 \x01\0\x01\x05\x02\0\x04\0\0\0\x01\x04\0\x05/flow\x06\0\x08\0\0\0\0\0\0\0\xff\x07\0\x01\x03\x0b\0\x04\0\0\0\x02\x0c\0\x04\0\0\0\x01";
 
-/// What is written of the message of a place.
-fn written(alloc: Global, place: usize) -> Result<Vec<u8>, Fail> {
+/// What is written of a message from 1 to 2.
+fn written(alloc: Global, word: FlowWord) -> Option<Vec<u8>> {
     let m = FlowMessage {
         to: 2,
         from: 1,
-        word: word_at(alloc, place)?,
+        word,
     };
-    Ok(write(alloc, &m)?)
+    write(alloc, &m).ok()
+}
+
+/// What is written of the message of a place.
+fn written_at(alloc: Global, place: usize) -> Option<Vec<u8>> {
+    match word_at(alloc, place) {
+        Some(word) => written(alloc, word),
+        None => None,
+    }
 }
 
 /// Whether these bytes are written of the message of a place.
-fn is_written(alloc: Global, place: usize, bytes: &[u8]) -> Result<bool, Fail> {
-    Ok(written(alloc, place)?.as_slice() == bytes)
+fn is_written(alloc: Global, place: usize, bytes: &[u8]) -> bool {
+    match written_at(alloc, place) {
+        Some(written) => written.as_slice() == bytes,
+        None => false,
+    }
 }
 
-/// Whether a message is read from these bytes.
-fn is_read(alloc: Global, bytes: &[u8]) -> Result<bool, Memory> {
+/// Whether a message is read from bytes that are one, and none from others.
+fn is_read(alloc: Global, bytes: &[u8], one: bool) -> bool {
     match read(alloc, bytes) {
-        Ok(m) => Ok(m.is_some()),
-        Err(Memory) => Err(Memory),
+        Ok(m) => m.is_some() == one,
+        Err(Memory) => false,
     }
 }
 
-#[test]
-fn messages_have_these_bytes(rt: HostRuntime) -> Result<(), Fail> {
+/// Whether each message is written as its bytes, and read from them.
+fn all_are_so(alloc: Global) -> bool {
     for (place, bytes) in MESSAGES.split(is_bar).enumerate() {
-        assert!(rt; is_written(rt.alloc(), place, bytes)?);
-        assert!(rt; is_read(rt.alloc(), bytes) == Ok(true));
+        if !is_written(alloc, place, bytes) || !is_read(alloc, bytes, true) {
+            return false;
+        }
     }
-    Ok(())
+    true
 }
 
 /// Bytes of no message, with a bar between them: a short one; a denial with a CEP-id, and an answer of result 4; a
@@ -203,19 +211,29 @@ const OTHERS: &[u8] = b"\
 \x01\0\x01\x06\x02\0\x04\0\0\0\x01\x04\0\x05/flow\x06\0\x08\0\0\0\x05\0\0\0\x03\x0b\0\x04\0\0\0\x02\x0c\0\x04\0\0\0\x01|\
 \x01\0\x01\x06\x02\0\x04\0\0\0\0\x04\0\x05/flow\x06\0\x08\0\0\0\x05\0\0\0\x03\x0b\0\x04\0\0\0\x02";
 
-#[test]
-fn what_is_no_message_about_a_flow(rt: HostRuntime) {
+/// Whether no message is read from any of them.
+fn none_is_read(alloc: Global) -> bool {
     for bytes in OTHERS.split(is_bar) {
-        assert!(rt; is_read(rt.alloc(), bytes) == Ok(false));
+        if !is_read(alloc, bytes, false) {
+            return false;
+        }
+    }
+    true
+}
+
+/// Whether the longest message has 322 bytes, and is read from them.
+fn longest_is_so(alloc: Global) -> bool {
+    match written_at(alloc, LONGEST) {
+        Some(bytes) => bytes.len() == 322 && is_read(alloc, &bytes, true),
+        None => false,
     }
 }
 
 #[test]
-fn the_longest_ask_has_322_bytes(rt: HostRuntime) -> Result<(), Fail> {
-    let bytes = written(rt.alloc(), LONGEST)?;
-    assert!(rt; bytes.len() == 322 && is_read(rt.alloc(), &bytes) == Ok(true));
+fn messages_have_these_bytes_and_322_at_most(rt: HostRuntime) {
+    let alloc = rt.alloc();
+    assert!(rt; all_are_so(alloc) && none_is_read(alloc) && longest_is_so(alloc));
     a_message_has_one_spelling();
     a_message_is_short();
     an_answer_can_be_told();
-    Ok(())
 }

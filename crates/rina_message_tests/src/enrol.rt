@@ -1,5 +1,5 @@
 //! Enrolments step by step, and the messages of a link as bytes.
-use rina_base::{AppName, Memory};
+use rina_base::{AppName, Memory, NameError};
 use rina_cdap::CdapError;
 use rina_enrol::{
     EnrolDo, EnrolEvent, Joiner, LinkMessage, Member, a_message_has_one_spelling,
@@ -7,7 +7,6 @@ use rina_enrol::{
 };
 use rina_newest::{Item, Version};
 use std::alloc::Global;
-use std::test::Fail;
 
 /// What happens to one of the two ends, and what it does.
 type Step = (EnrolEvent, EnrolDo);
@@ -71,17 +70,19 @@ fn is_enrolled(alloc: Global, joiner: &mut Joiner) -> bool {
         && joins(alloc, joiner, &JOINER_LOST)
 }
 
-#[test]
-fn a_joiner_is_enrolled(rt: HostRuntime) {
-    let mut joiner = Joiner::new();
-    assert!(rt; enrols(rt.alloc(), &MEMBER) && is_enrolled(rt.alloc(), &mut joiner));
+/// Whether one that is denied does nothing more.
+fn is_denied(alloc: Global, joiner: &mut Joiner) -> bool {
+    enrols(alloc, &MEMBER_DENIES) && joins(alloc, joiner, &JOINER_DENIED)
 }
 
 #[test]
-fn one_that_is_denied_does_nothing_more(rt: HostRuntime) {
+fn a_joiner_is_enrolled_or_denied(rt: HostRuntime) {
     let mut joiner = Joiner::new();
+    let mut denied = Joiner::new();
     assert!(rt;
-        enrols(rt.alloc(), &MEMBER_DENIES) && joins(rt.alloc(), &mut joiner, &JOINER_DENIED)
+        enrols(rt.alloc(), &MEMBER)
+            && is_enrolled(rt.alloc(), &mut joiner)
+            && is_denied(rt.alloc(), &mut denied)
     );
 }
 
@@ -108,40 +109,55 @@ const LONGEST_VALUE: &[u8] = b"\
 /// The place of the longest message, behind those of the table.
 const LONGEST: usize = 9;
 
+/// A request to connect.
+fn connect(alloc: Global, joiner: &[u8], member: &[u8]) -> Result<LinkMessage, NameError> {
+    Ok(LinkMessage::Connect {
+        invoke: 1,
+        joiner: AppName::read(alloc, joiner)?,
+        member: AppName::read(alloc, member)?,
+    })
+}
+
+/// An item that is flooded.
+fn flood(alloc: Global, key: &[u8], value: Option<&[u8]>) -> Option<LinkMessage> {
+    match item(alloc, key, value) {
+        Ok(item) => Some(LinkMessage::Flood { item }),
+        Err(Memory) => None,
+    }
+}
+
+/// An item of a member, sent to a joiner.
+fn sent(alloc: Global, key: &[u8], value: Option<&[u8]>) -> Option<LinkMessage> {
+    match item(alloc, key, value) {
+        Ok(item) => Some(LinkMessage::Item { item }),
+        Err(Memory) => None,
+    }
+}
+
 /// The message whose bytes stand at a place of the table, or the longest one.
-fn message_at(alloc: Global, place: usize) -> Result<LinkMessage, Fail> {
-    Ok(match place {
-        0 => LinkMessage::Connect {
-            invoke: 1,
-            joiner: AppName::read(alloc, b"d/b")?,
-            member: AppName::read(alloc, b"d/a")?,
-        },
-        1 => LinkMessage::ConnectR {
+fn message_at(alloc: Global, place: usize) -> Option<LinkMessage> {
+    match place {
+        0 => connect(alloc, b"d/b", b"d/a").ok(),
+        1 => Some(LinkMessage::ConnectR {
             invoke: 1,
             denied: None,
-        },
-        2 => LinkMessage::ConnectR {
+        }),
+        2 => Some(LinkMessage::ConnectR {
             invoke: 1,
             denied: Some(257),
-        },
-        3 => LinkMessage::Start {
+        }),
+        3 => Some(LinkMessage::Start {
             invoke: 2,
             address: 2,
-        },
-        4 => LinkMessage::StartR { invoke: 2 },
-        5 => LinkMessage::Stop { invoke: 1 },
-        6 => LinkMessage::StopR { invoke: 1 },
-        7 => LinkMessage::Item {
-            item: item(alloc, b"/member/2", Some(b"b"))?,
-        },
-        8 => LinkMessage::Flood {
-            item: item(alloc, b"/dir/a", None)?,
-        },
-        LONGEST => LinkMessage::Flood {
-            item: item(alloc, b"/link/4294967295", Some(LONGEST_VALUE))?,
-        },
-        _ => return Err("there is no such message".into()),
-    })
+        }),
+        4 => Some(LinkMessage::StartR { invoke: 2 }),
+        5 => Some(LinkMessage::Stop { invoke: 1 }),
+        6 => Some(LinkMessage::StopR { invoke: 1 }),
+        7 => sent(alloc, b"/member/2", Some(b"b")),
+        8 => flood(alloc, b"/dir/a", None),
+        LONGEST => flood(alloc, b"/link/4294967295", Some(LONGEST_VALUE)),
+        _ => None,
+    }
 }
 
 /// The bytes of each message, with a bar between them.
@@ -157,31 +173,37 @@ const MESSAGES: &[u8] = b"\
 \x01\0\x01\x0c\x02\0\x04\0\0\0\0\x03\0\x05value\x04\0\x06/dir/a\x06\0\x0d\0\0\0\x03\0\0\0\x01\0\0\0\x02\0";
 
 /// What is written of a message of the table.
-fn written(alloc: Global, place: usize) -> Result<Vec<u8>, Fail> {
-    let m = message_at(alloc, place)?;
-    Ok(write(alloc, &m)?)
+fn written_at(alloc: Global, place: usize) -> Option<Vec<u8>> {
+    match message_at(alloc, place) {
+        Some(m) => write(alloc, &m).ok(),
+        None => None,
+    }
 }
 
 /// Whether these bytes are written of a message of the table.
-fn is_written(alloc: Global, place: usize, bytes: &[u8]) -> Result<bool, Fail> {
-    Ok(written(alloc, place)?.as_slice() == bytes)
+fn is_written(alloc: Global, place: usize, bytes: &[u8]) -> bool {
+    match written_at(alloc, place) {
+        Some(written) => written.as_slice() == bytes,
+        None => false,
+    }
 }
 
-/// Whether a message is read from these bytes.
-fn is_read(alloc: Global, bytes: &[u8]) -> Result<bool, Memory> {
+/// Whether a message is read from bytes that are one, and none from others.
+fn is_read(alloc: Global, bytes: &[u8], one: bool) -> bool {
     match read(alloc, bytes) {
-        Ok(m) => Ok(m.is_some()),
-        Err(Memory) => Err(Memory),
+        Ok(m) => m.is_some() == one,
+        Err(Memory) => false,
     }
 }
 
-#[test]
-fn messages_have_these_bytes(rt: HostRuntime) -> Result<(), Fail> {
+/// Whether each message is written as its bytes, and read from them.
+fn all_are_so(alloc: Global) -> bool {
     for (place, bytes) in MESSAGES.split(is_bar).enumerate() {
-        assert!(rt; is_written(rt.alloc(), place, bytes)?);
-        assert!(rt; is_read(rt.alloc(), bytes) == Ok(true));
+        if !is_written(alloc, place, bytes) || !is_read(alloc, bytes, true) {
+            return false;
+        }
     }
-    Ok(())
+    true
 }
 
 /// Bytes of no message, with a bar between them: none at all; a START with no address, with a further field, and with
@@ -192,30 +214,38 @@ const OTHERS: &[u8] = b"|\
 \x01\0\x01\x0e\x02\0\x04\0\0\0\x02\x03\0\x05enrol\x04\0\x07/member\x06\0\x05\0\0\0\x02\0|\
 \x01\0\x01\x0c\x02\0\x04\0\0\0\0\x03\0\x05value\x04\0\x06/dir/a\x06\0\x0e\0\0\0\x03\0\0\0\x01\0\0\0\x02\0b";
 
-#[test]
-fn what_is_no_message_of_a_link(rt: HostRuntime) {
+/// Whether no message is read from any of them.
+fn none_is_read(alloc: Global) -> bool {
     for bytes in OTHERS.split(is_bar) {
-        assert!(rt; is_read(rt.alloc(), bytes) == Ok(false));
+        if !is_read(alloc, bytes, false) {
+            return false;
+        }
+    }
+    true
+}
+
+/// Whether the longest message has 325 bytes, and is read from them.
+fn longest_is_so(alloc: Global) -> bool {
+    match written_at(alloc, LONGEST) {
+        Some(bytes) => bytes.len() == 325 && is_read(alloc, &bytes, true),
+        None => false,
+    }
+}
+
+/// Whether an item is not written whose key is no object name.
+fn is_refused(alloc: Global) -> bool {
+    match sent(alloc, b"dir", Some(b"1")) {
+        Some(m) => write(alloc, &m).err() == Some(CdapError::BadValue { tag: 4 }),
+        None => false,
     }
 }
 
 #[test]
-fn the_longest_message_has_325_bytes(rt: HostRuntime) -> Result<(), Fail> {
-    let bytes = written(rt.alloc(), LONGEST)?;
-    assert!(rt; bytes.len() == 325 && is_read(rt.alloc(), &bytes) == Ok(true));
+fn messages_have_these_bytes_and_325_at_most(rt: HostRuntime) {
+    let alloc = rt.alloc();
+    assert!(rt;
+        all_are_so(alloc) && none_is_read(alloc) && longest_is_so(alloc) && is_refused(alloc)
+    );
     a_message_has_one_spelling();
     a_message_is_short();
-    Ok(())
-}
-
-/// Why an item is not written whose key is no object name.
-fn refused(alloc: Global) -> Result<Option<CdapError>, Memory> {
-    let item = item(alloc, b"dir", Some(b"1"))?;
-    Ok(write(alloc, &LinkMessage::Item { item }).err())
-}
-
-#[test]
-fn a_key_that_is_no_object_name_is_not_written(rt: HostRuntime) {
-    let refused = refused(rt.alloc());
-    assert!(rt; refused == Ok(Some(CdapError::BadValue { tag: 4 })));
 }

@@ -4,7 +4,6 @@ use rina_agent::{Agent, Link, ManagementMessage, MemberState, link_state, number
 use rina_base::{Addr, AppName, Memory, Name, NameError, Seq, Tick};
 use rina_newest::{Item, Newest, Version};
 use std::alloc::Global;
-use std::test::Fail;
 
 /// The names of the nodes, each a letter. The members on them have the addresses 1 to 8.
 const NODES: &[u8] = b"abcdefgh";
@@ -196,22 +195,24 @@ fn names(alloc: Global, node: u8) -> Result<(AppName, Name), NameError> {
     Ok((name, Name::read(alloc, &[node])?))
 }
 
-/// A member of the DIF d, which knows no item yet.
-fn member(alloc: Global, place: usize, node: u8) -> Result<Agent, Fail> {
-    let rules = Rules::new(alloc, &[], true)?;
-    let links = links(alloc, place)?;
-    let (name, node) = names(alloc, node)?;
+/// Adds a member of the DIF d, which knows no item yet.
+fn add_member(alloc: Global, ring: &mut Vec<Agent>, place: usize, node: u8) -> Option<()> {
+    let rules = Rules::new(alloc, &[], true).ok()?;
+    let links = links(alloc, place).ok()?;
+    let (name, node) = names(alloc, node).ok()?;
     let items = Newest::new(alloc);
-    Ok(Agent::enrolled(alloc, address(place), name, node, rules, items, links))
+    let member = Agent::enrolled(alloc, address(place), name, node, rules, items, links);
+    ring.push(member).ok()
 }
 
-/// The members of the DIF d, which are in a ring and know no items yet.
-fn members(alloc: Global) -> Result<Vec<Agent>, Fail> {
-    let mut ring = Vec::new(alloc);
+/// Adds the members of the DIF d, which are in a ring and know no items yet.
+fn add_members(alloc: Global, ring: &mut Vec<Agent>) -> bool {
     for (place, node) in NODES.iter().enumerate() {
-        ring.push(member(alloc, place, *node)?)?;
+        if add_member(alloc, ring, place, *node).is_none() {
+            return false;
+        }
     }
-    Ok(ring)
+    true
 }
 
 /// Gives each member the items of the start.
@@ -483,24 +484,36 @@ fn agree(alloc: Global, ring: &[Agent], keep: [u8; 2]) -> bool {
     true
 }
 
-/// The first step that does not go as it is to.
-fn first_difference(alloc: Global, ring: &mut [Agent], order: Order) -> Option<usize> {
-    for (place, step) in STEPS.iter().enumerate() {
+/// Whether each step goes as it is to.
+fn each_goes(alloc: Global, ring: &mut [Agent], order: Order) -> bool {
+    for step in &STEPS {
         if !acts(alloc, ring, step.deed)
             || !settles(alloc, ring, order, step)
             || !agree(alloc, ring, step.keep)
         {
-            return Some(place);
+            return false;
         }
     }
-    None
+    true
+}
+
+/// Whether each step of a new ring does.
+fn ring_goes(alloc: Global, order: Order) -> bool {
+    let mut ring = Vec::new(alloc);
+    add_members(alloc, &mut ring) && each_goes(alloc, &mut ring, order)
+}
+
+/// Whether it does in each order.
+fn all_go(alloc: Global) -> bool {
+    for order in &ORDERS {
+        if !ring_goes(alloc, *order) {
+            return false;
+        }
+    }
+    true
 }
 
 #[test]
-fn a_ring_that_was_parted_agrees_again(rt: HostRuntime) -> Result<(), Fail> {
-    for order in &ORDERS {
-        let mut ring = members(rt.alloc())?;
-        assert_eq!(rt; first_difference(rt.alloc(), &mut ring, *order), None);
-    }
-    Ok(())
+fn a_ring_that_was_parted_agrees_again(rt: HostRuntime) {
+    assert!(rt; all_go(rt.alloc()));
 }

@@ -232,7 +232,7 @@ enough_read left0 left r lines h = elim (cases_Bool r.over) [
       read = record {
         bytes = h.read;
         read = h.consumed;
-        ended = record { ended = ends_joined lines (h.ended more); behind = r.held; few = h.sound.few; are = h.bytes };
+        ended = (omega (arith, h.room), record { ended = ends_joined lines (h.ended more); behind = r.held; few = h.sound.few; are = h.bytes });
       };
       are = ap ended_lines h.are ∙ ended_all lines (h.ended more);
     };

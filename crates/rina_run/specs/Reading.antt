@@ -45,13 +45,14 @@ pub record IsEnough (bytes used : List ℕ) : Type 0 where
   pub few : length behind ≤ 4096
   pub are : bytes ≡ used ++ behind
 
--- which of the bytes that were read are used, by how reading ended; without memory all are but for what one read gave at most
+-- which of the bytes that were read are used, by how reading ended: more than 16,777,216 are read only where that is what breaks reading off; without memory
+-- all are used but for what one read gave at most
 abbrev pub EndedBy : Ending → Option (List ℕ) → List ℕ → List ℕ → Type 0
 EndedBy Whole left bytes used = IsAtEnd left × (length bytes ≤ 16777216) × (used ≡ bytes)
 EndedBy (Broken faults.TooLarge) left bytes used = (16777216 < length bytes) × (used ≡ take 16777216 bytes)
 EndedBy (Broken faults.ReadFault) left bytes used = (length bytes ≤ 16777216) × (used ≡ bytes)
 EndedBy (Broken fault) left bytes used = ⊥
-EndedBy Enough left bytes used = IsEnough bytes used
+EndedBy Enough left bytes used = (length bytes ≤ 16777216) × IsEnough bytes used
 EndedBy Lost left bytes used = (length bytes ≤ 16777216) × (behind : List ℕ) × (length behind ≤ 4096) × (bytes ≡ used ++ behind)
 
 -- these bytes were read, reading ended so, and these of them are used

@@ -12,13 +12,13 @@ ghost use Rattle.rina_run.specs.Written.{Written};
 ghost use Rattle.rina_run.specs.Faults.{CheckFaults, NoteFaults, ReadFaults, WriteFaults};
 
 use crate::closing::{fault_status, line_fault, out_of_memory, seal};
-use crate::lines::BadLine;
+use crate::lines::{BadLine, line_in};
 use crate::outcome::{Finish, Status};
 use crate::reading::{Head, Next, next_line, plan_of, read_stack};
 use rina_base::{Memory, Seq};
 use rina_io::{LineReader, Sink, Source, without_end};
 use rina_report::{Fault, Note};
-use rina_schedule::{LineError, read_line};
+use rina_schedule::LineError;
 use rina_stack::{Plan, Policies, StackError};
 use std::alloc::Global;
 
@@ -38,10 +38,10 @@ fn read_one(alloc: Global, line: &[u8]) -> Result<Result<bool, LineError>, Memor
     ensures read { IfOk result (IsReadAs line.now) }
     ensures memory { OnErr result (Asks line.now) }
 {
-    match read_line(alloc, line) {
-        Ok(event) => Ok(Ok(event.is_some())),
-        Err(LineError::Memory) => Err(Memory),
-        Err(error) => Ok(Err(error)),
+    match line_in(alloc, line) {
+        Ok(Ok(event)) => Ok(Ok(event.is_some())),
+        Ok(Err(error)) => Ok(Err(error)),
+        Err(Memory) => Err(Memory),
     }
 }
 

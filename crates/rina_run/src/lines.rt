@@ -1,16 +1,17 @@
 //! The lines of a schedule, one after the other.
-ghost use Rattle.std.specs.Prelude.{◌≡◌, ◌<◌, ◌^◌, ℕ, List, [], length, take, true, Option, OnOk, IfErr};
+ghost use Rattle.std.specs.Prelude.{◌≡◌, ◌<◌, ◌^◌, ℕ, List, [], length, take, true, Option, OnOk, OnErr, IfOk, IfErr};
 ghost use Rattle.std.specs.Io.KnownBytes.{Appends};
 ghost use Rattle.rina_io.specs.NextLine.{IsSound};
 ghost use Rattle.rina_io.specs.Reader.{size};
 ghost use Rattle.rina_report.specs.Notes.{text_of};
+ghost use Rattle.rina_schedule.specs.Line.{line_at};
 ghost use Rattle.rina_stack.specs.Plan.{IsPlan};
 ghost use Rattle.rina_tower.specs.Stands.{IsTower};
 ghost use Rattle.rina_run.specs.Top.{status_stopped};
 ghost use Rattle.rina_run.specs.Written.{Written};
 ghost use Rattle.rina_words.specs.Step.{HasNames, Steps, stage};
 ghost use Rattle.rina_run.specs.Reading.{HasRead, ReadBehind};
-ghost use Rattle.rina_run.specs.Run.{Ran, LineRan, LinesRan};
+ghost use Rattle.rina_run.specs.Run.{Asks, Ran, LineRan, LinesRan};
 ghost use Rattle.rina_run.specs.Faults.{CloseFaults, StopFaults};
 
 use crate::output::{Stop, emit};
@@ -64,6 +65,19 @@ fn run_event<K: Sink, P: Retires>(
     }
 }
 
+/// What a line holds: an event, or none where it is blank or a comment, or the error of a line outside the grammar. A line that asks
+/// for nothing takes no memory.
+pub fn line_in(alloc: Global, text: &[u8]) -> Result<Result<Option<Event>, LineError>, Memory>
+    ensures held { IfOk result (λ held. line_at text.now ≡ held) }
+    ensures memory { OnErr result (Asks text.now) }
+{
+    match read_line(alloc, text) {
+        Ok(event) => Ok(Ok(event)),
+        Err(LineError::Memory) => Err(Memory),
+        Err(error) => Ok(Err(error)),
+    }
+}
+
 /// Runs a line and writes its notes. The fault of a line outside the grammar is answered, and then
 /// nothing was run.
 #[tactic(auto, using(crate::proofs::Texts::wrote_all))]
@@ -84,14 +98,14 @@ fn run_line<K: Sink, P: Retires>(
     ensures sound { IsTower run.new.tower }
     ensures names { HasNames (P.slots shelf.old) (P.slots shelf.new) }
 {
-    match read_line(line.alloc, text) {
-        Ok(Some(event)) => {
+    match line_in(line.alloc, text) {
+        Ok(Ok(Some(event))) => {
             run_event(line, run, shelf, &event, out, trace)?;
             Ok(None)
         }
-        Ok(None) => Ok(None),
-        Err(LineError::Memory) => Err(Stop::Memory),
-        Err(error) => Ok(Some(error)),
+        Ok(Ok(None)) => Ok(None),
+        Ok(Err(error)) => Ok(Some(error)),
+        Err(Memory) => Err(Stop::Memory),
     }
 }
 

@@ -195,7 +195,7 @@ pub fn run<S: Source, K: Sink, P: Retires + Policies>(
     // the closing note, were written in part, and all before them whole; after `Memory` that last piece may be left out.
     ensures written { WrittenBy (command_of (map (λ w. string_bytes w) words.now)) (K.took out.old) (K.took out.new) result.trace result.status }
     // The status, the trace, the tower, the notes of a drawn run and the shelf are what the words, the input and the shelf make. Behind the line that ended
-    // the run, at most 4,096 bytes of the input were read.
+    // the run, at most 4,096 bytes of the input were read; more than 16,777,216 bytes in all only where that is what ends the run.
     ensures outcome { RunOutcomes (P.knows shelf) (command_of (map (λ w. string_bytes w) words.now)) (S.left input.old) (S.left input.new) (P.slots shelf) result.status result.trace result.tower result.unwritten (P.slots result.shelf) }
     // Every DIF of every rank stands on the rank below.
     ensures stands { IfSome result.tower IsTower }

@@ -1,8 +1,7 @@
 //! The rules on a stack as a whole (rules 8 to 19), and stacks that break two.
-use crate::cases::told_of_change;
-use std::test::Fail;
+use crate::cases::rows_are_so;
 
-/// What is told, and a change of the whole stack; a row without `: ` is a heading.
+/// What is told, and a change of the whole stack.
 static ROWS: &str = "# Rule 8.
 8 1: ends = ['a', 'b'] => ends = ['a', 'a']
 8 1: life = 10, largest = 1500 => life = 1, largest = 1500
@@ -173,12 +172,6 @@ no TOML: spread = 8 => spread = 9, lose = 3
 18 3: flow = [{ cube = 1 => flow = [{ cube = 2 ;; weight = 9 }] => weight = 9 }] | flow = [{ cube = 2, from = { node = 'a', app = 's', label = 'x' }, to = { node = 'b', app = 't', label = 'y' } }]";
 
 #[test]
-fn each_stack_has_its_rules(rt: HostRuntime) -> Result<(), Fail> {
-    let alloc = rt.alloc();
-    for row in ROWS.lines() {
-        if let Some((want, changes)) = row.split_once(": ") {
-            assert_eq!(rt; told_of_change(alloc, changes)?.as_str(), want, "{changes}");
-        }
-    }
-    Ok(())
+fn each_stack_has_its_rules(rt: HostRuntime) {
+    rows_are_so(&rt, rt.alloc(), ROWS);
 }

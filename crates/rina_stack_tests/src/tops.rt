@@ -1,7 +1,5 @@
 //! Whole stacks: the table at the top, and DIFs that are static or not.
-use crate::cases::{lines_of, told};
-use rina_stack::{BuiltIn, read_stack};
-use std::test::Fail;
+use crate::cases::{is_told, rows_are_so};
 
 /// What is told, and a stack.
 static TOPS: &str = "no TOML: nodes = [
@@ -32,17 +30,9 @@ plan 128 16: nodes = [ | * 64 'n#', | ] | wire = [ | * 128 { name = 'w#', ends =
 19 0: nodes = [ | * 2 'n#', | ] | wire = [ | * 0 { name = 'w#', ends = ['n0', 'n1'], delay = 2, life = 10, largest = 1500 }, | ] | dif = [ | * 17 { name = 'd#', rank = 1, pdu = 96, widths = { addr = 1, cep = 1, len = 2, seq = 2 }, queue = 64, policy = 'strict', wait = 500, manage = { mpl = 40, r = 30, a = 2, retry = 10, window = 8 }, cube = [{ id = 1, kind = 'datagram', mpl = 40, window = 16, largest = 80 }], member = [{ node = 'n0', addr = 1 }] }, | ]";
 
 #[test]
-fn the_top_is_read(rt: HostRuntime) -> Result<(), Fail> {
-    let alloc = rt.alloc();
-    for row in TOPS.lines() {
-        let (want, row) = row.split_once(": ").ok_or("no stack")?;
-        let text = lines_of(alloc, row)?;
-        let read = read_stack(alloc, text.as_bytes(), &BuiltIn);
-        assert_eq!(rt; told(alloc, read)?.as_str(), want, "{row}");
-    }
-    let read = read_stack(alloc, b"nodes = ['\xff']", &BuiltIn);
-    assert_eq!(rt; told(alloc, read)?.as_str(), "no TOML");
-    Ok(())
+fn the_top_is_read(rt: HostRuntime) {
+    rows_are_so(&rt, rt.alloc(), TOPS);
+    assert!(rt; is_told(rt.alloc(), b"nodes = ['\xff']", "no TOML"));
 }
 
 /// What is told, and a stack whose DIFs are static or not.
@@ -73,13 +63,6 @@ plan 1 1: nodes = ['n0', 'n1'] | wire = [{ name = 'w', ends = ['n0', 'n1'], dela
 9 2: nodes = ['n0', 'n1'] | wire = [{ name = 'w', ends = ['n0', 'n1'], delay = 2, life = 10, largest = 1500 }] | dif = [{ name = 'd', rank = 2, static = true, pdu = 96, widths = { addr = 1, cep = 1, len = 2, seq = 2 }, queue = 64, policy = 'strict', wait = 500, manage = { mpl = 40, r = 30, a = 2, retry = 10, window = 8 }, cube = [{ id = 1, kind = 'datagram', mpl = 40, window = 16, largest = 80 }], member = [{ node = 'n0', addr = 1 }] }]";
 
 #[test]
-fn static_and_other_difs_are_read(rt: HostRuntime) -> Result<(), Fail> {
-    let alloc = rt.alloc();
-    for row in DIFS.lines() {
-        let (want, row) = row.split_once(": ").ok_or("no stack")?;
-        let text = lines_of(alloc, row)?;
-        let read = read_stack(alloc, text.as_bytes(), &BuiltIn);
-        assert_eq!(rt; told(alloc, read)?.as_str(), want, "{row}");
-    }
-    Ok(())
+fn static_and_other_difs_are_read(rt: HostRuntime) {
+    rows_are_so(&rt, rt.alloc(), DIFS);
 }

@@ -1,8 +1,7 @@
 //! The rules on single values: keys, types, names, ranges and references (rules 2 to 7).
-use crate::cases::told_of_change;
-use std::test::Fail;
+use crate::cases::rows_are_so;
 
-/// What is told, and a change of the whole stack; a row without `: ` is a heading.
+/// What is told, and a change of the whole stack.
 static ROWS: &str = "# Rule 2.
 plan 2 2: 'w', ends => 'w', ends
 2 0: nodes = [ => x = 1 | nodes = [
@@ -341,12 +340,6 @@ plan 2 2: policy = 'weighted' => policy = 'first'
 plan 2 2: policy = 'weighted' => policy = 'round'";
 
 #[test]
-fn each_value_has_its_rules(rt: HostRuntime) -> Result<(), Fail> {
-    let alloc = rt.alloc();
-    for row in ROWS.lines() {
-        if let Some((want, changes)) = row.split_once(": ") {
-            assert_eq!(rt; told_of_change(alloc, changes)?.as_str(), want, "{changes}");
-        }
-    }
-    Ok(())
+fn each_value_has_its_rules(rt: HostRuntime) {
+    rows_are_so(&rt, rt.alloc(), ROWS);
 }

@@ -1,7 +1,7 @@
 //! Which nodes of a DIF a walk of its links joins.
-use rina_plan::are_joined;
-use rina_stack::{BuiltIn, read_stack};
-use std::test::Fail;
+use rina_plan::{DifPlan, are_joined};
+use rina_stack::{BuiltIn, Plan, read_stack};
+use std::alloc::Global;
 
 /// A DIF whose links join the nodes 0, 1 and 2, and the nodes 3 and 4.
 static HALVES: &str = "nodes = ['n0', 'n1', 'n2', 'n3', 'n4']
@@ -31,34 +31,45 @@ link = [
 ";
 
 /// Two nodes, and whether a walk joins them.
-static WALKS: &str = "0 1 true
-0 2 true
-2 0 true
-3 4 true
-2 2 true
-9 9 true
-2 3 false
-4 0 false
-1 9 false";
+static WALKS: [(usize, usize, bool); 9] = [
+    (0, 1, true),
+    (0, 2, true),
+    (2, 0, true),
+    (3, 4, true),
+    (2, 2, true),
+    (9, 9, true),
+    (2, 3, false),
+    (4, 0, false),
+    (1, 9, false),
+];
+
+/// Whether walks in a DIF join what the table says.
+fn walks_join(alloc: Global, dif: &DifPlan) -> bool {
+    for (one, other, joined) in &WALKS {
+        if are_joined(alloc, dif, *one, *other) != Ok(*joined) {
+            return false;
+        }
+    }
+    true
+}
+
+/// Whether walks in the first DIF of a plan do.
+fn first_is_so(alloc: Global, plan: &Plan) -> bool {
+    match plan.difs.get(0) {
+        Some(dif) => walks_join(alloc, dif),
+        None => false,
+    }
+}
+
+/// Whether walks in the halves do.
+fn halves_are_so(alloc: Global) -> bool {
+    match read_stack(alloc, HALVES.as_bytes(), &BuiltIn) {
+        Ok(plan) => first_is_so(alloc, &plan),
+        Err(_) => false,
+    }
+}
 
 #[test]
-fn walks_join_what_links_lead_to(rt: HostRuntime) -> Result<(), Fail> {
-    let alloc = rt.alloc();
-    let plan = match read_stack(alloc, HALVES.as_bytes(), &BuiltIn) {
-        Ok(plan) => plan,
-        Err(_) => return Err("no plan".into()),
-    };
-    let dif = plan.difs.get(0).ok_or("no DIF")?;
-    for row in WALKS.lines() {
-        let (one, more) = row.split_once(" ").ok_or("no node")?;
-        let (other, joined) = more.split_once(" ").ok_or("no second node")?;
-        let one = one.parse::<usize>().or(Err("no number"))?;
-        let other = other.parse::<usize>().or(Err("no number"))?;
-        assert_eq!(rt;
-            are_joined(alloc, dif, one, other)?,
-            joined == "true",
-            "{row}"
-        );
-    }
-    Ok(())
+fn walks_join_what_links_lead_to(rt: HostRuntime) {
+    assert!(rt; halves_are_so(rt.alloc()));
 }

@@ -1,33 +1,51 @@
 //! Lines that are read one at a time.
 use rina_io::{LineReader, MemSource, ReadError, SureSource};
-use std::test::Fail;
+use std::alloc::{AllocError, Global};
 
-#[test]
-fn the_last_line_may_have_no_end(rt: HostRuntime) -> Result<(), Fail> {
-    let alloc = rt.alloc();
-    let mut source = SureSource::new(b"one\r\nlast");
+/// Whether two lines are read, of which the last has no end.
+fn the_last_has_no_end(alloc: Global, source: &mut SureSource<'_>) -> bool {
     let mut reader = LineReader::new(alloc);
-    let Ok(Some(first)) = reader.next_line(alloc, &mut source) else {
-        return Err(Fail::from("no first line"));
+    let Ok(Some(first)) = reader.next_line(alloc, source) else {
+        return false;
     };
-    assert_eq!(rt; first.as_slice(), b"one\r\n".as_slice());
-    let Ok(Some(last)) = reader.next_line(alloc, &mut source) else {
-        return Err(Fail::from("no last line"));
+    let Ok(Some(last)) = reader.next_line(alloc, source) else {
+        return false;
     };
-    assert_eq!(rt; last.as_slice(), b"last".as_slice());
-    assert!(rt; matches!(reader.next_line(alloc, &mut source), Ok(None)));
-    Ok(())
+    first.as_slice() == b"one\r\n".as_slice()
+        && last.as_slice() == b"last".as_slice()
+        && matches!(reader.next_line(alloc, source), Ok(None))
 }
 
 #[test]
-fn a_read_that_fails_ends_the_lines(rt: HostRuntime) -> Result<(), Fail> {
-    let alloc = rt.alloc();
-    let mut source = MemSource::new(b"whole\nopen".to_vec(alloc)?, [false, true].to_vec(alloc)?);
+fn the_last_line_may_have_no_end(rt: HostRuntime) {
+    assert!(rt; the_last_has_no_end(rt.alloc(), &mut SureSource::new(b"one\r\nlast")));
+}
+
+/// A source of one whole line and a part of another, whose second read fails.
+fn broken(alloc: Global) -> Result<MemSource, AllocError> {
+    let bytes = b"whole\nopen".to_vec(alloc)?;
+    Ok(MemSource::new(bytes, [false, true].to_vec(alloc)?))
+}
+
+/// Whether the whole line is read, and no other.
+fn one_is_read(alloc: Global, source: &mut MemSource) -> bool {
     let mut reader = LineReader::new(alloc);
-    let Ok(Some(whole)) = reader.next_line(alloc, &mut source) else {
-        return Err(Fail::from("no line"));
+    let Ok(Some(whole)) = reader.next_line(alloc, source) else {
+        return false;
     };
-    assert_eq!(rt; whole.as_slice(), b"whole\n".as_slice());
-    assert!(rt; matches!(reader.next_line(alloc, &mut source), Err(ReadError::Fault)));
-    Ok(())
+    whole.as_slice() == b"whole\n".as_slice()
+        && matches!(reader.next_line(alloc, source), Err(ReadError::Fault))
+}
+
+/// Whether a read that fails ends the lines.
+fn a_fault_ends_lines(alloc: Global) -> bool {
+    match broken(alloc) {
+        Ok(mut source) => one_is_read(alloc, &mut source),
+        Err(_) => false,
+    }
+}
+
+#[test]
+fn a_read_that_fails_ends_the_lines(rt: HostRuntime) {
+    assert!(rt; a_fault_ends_lines(rt.alloc()));
 }

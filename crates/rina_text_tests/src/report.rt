@@ -1,7 +1,9 @@
 //! Notes: a text of each kind, read and printed, and the first fault of a text that is none.
-use crate::schedule::{is_fault, parts};
+use crate::schedule::{is_fault, parted};
 use rina_report::{Answer, Note, print_note, read_note};
+use rina_schedule::LineError;
 use std::alloc::Global;
+use std::process::Abort;
 
 /// Whether a note is printed so.
 fn prints(alloc: Global, note: &Note, printed: &[u8]) -> bool {
@@ -11,34 +13,45 @@ fn prints(alloc: Global, note: &Note, printed: &[u8]) -> bool {
     }
 }
 
-/// Whether a text is read as a note, and that note printed as the text.
-fn returns(alloc: Global, text: &[u8]) -> bool {
-    match read_note(alloc, text) {
-        Ok(note) => prints(alloc, &note, text),
-        Err(_) => false,
+/// Whether what is read of a text is printed so, or is this fault.
+fn is_told(alloc: Global, read: &[Result<Note, LineError>], told: &[u8]) -> bool {
+    match read {
+        [Ok(note)] => prints(alloc, note, told),
+        [Err(fault)] => is_fault(*fault, told),
+        _ => false,
     }
 }
 
-/// Whether the text before a bar has the fault that is written behind it.
-fn refuses(alloc: Global, row: &[u8]) -> bool {
-    let Some((text, fault)) = parts(row) else {
-        return false;
-    };
-    match read_note(alloc, text) {
-        Ok(_) => false,
-        Err(first) => is_fault(first, fault),
+/// Whether a row tells what is read of its text. What is read stands in an array, which is dropped in one step.
+fn is_so(alloc: Global, row: &[u8]) -> bool {
+    let (text, told) = parted(row);
+    let read = [read_note(alloc, text)];
+    is_told(alloc, &read, told)
+}
+
+/// Asserts that each row of a table is so.
+fn rows_are_so(rt: &impl Abort, alloc: Global, rows: &str) {
+    for row in rows.lines() {
+        assert!(rt; is_so(alloc, row.as_bytes()), "{row}");
     }
+}
+
+/// Whether the first run begins and ends with these notes.
+fn first_run_is_so(alloc: Global) -> bool {
+    let notes = [
+        Note::Line {
+            line: 1,
+            tick: 0,
+            answer: Answer::Done,
+        },
+        Note::End { tick: 2 },
+    ];
+    prints(alloc, &notes[0], b"1 0 ok") && prints(alloc, &notes[1], b"end 2")
 }
 
 #[test]
 fn the_first_run_begins_and_ends_so(rt: HostRuntime) {
-    let begins = Note::Line {
-        line: 1,
-        tick: 0,
-        answer: Answer::Done,
-    };
-    assert!(rt; prints(rt.alloc(), &begins, b"1 0 ok"));
-    assert!(rt; prints(rt.alloc(), &Note::End { tick: 2 }, b"end 2"));
+    assert!(rt; first_run_is_so(rt.alloc()));
 }
 
 /// A text of each kind, one a line.
@@ -148,13 +161,6 @@ fault ReadFault
 checked 2 1 0 6
 gen 1 lines 307 tick 5 sent 4 got 3 refused 2 off 1 failed 0";
 
-#[test]
-fn each_text_is_read_and_printed(rt: HostRuntime) {
-    for text in TEXTS.lines() {
-        assert!(rt; returns(rt.alloc(), text.as_bytes()), "{text}");
-    }
-}
-
 /// Texts that are no notes, a bar, and the first fault, with its field.
 const FAULTS: &str = "\
 |UnknownWord 0
@@ -183,8 +189,7 @@ end|MissingField 1
 checked 2 1 0 6 0|Extra 5";
 
 #[test]
-fn the_first_fault_of_a_text_is_told(rt: HostRuntime) {
-    for row in FAULTS.lines() {
-        assert!(rt; refuses(rt.alloc(), row.as_bytes()), "{row}");
-    }
+fn texts_are_read_and_printed_or_have_a_first_fault(rt: HostRuntime) {
+    rows_are_so(&rt, rt.alloc(), TEXTS);
+    rows_are_so(&rt, rt.alloc(), FAULTS);
 }

@@ -1,34 +1,16 @@
 //! Lines of a schedule: each word, its other spellings, the first fault of a text that is none.
-use rina_schedule::{LineError, print_line, read_line};
+use rina_schedule::{Event, LineError, print_line, read_line};
 use std::alloc::Global;
+use std::process::Abort;
 
-/// Whether a line is read, and printed as this.
-fn prints(alloc: Global, line: &[u8], printed: &[u8]) -> bool {
-    let Ok(Some(event)) = read_line(alloc, line) else {
-        return false;
-    };
-    match print_line(alloc, &event) {
-        Ok(text) => text.as_slice() == printed,
-        Err(_) => false,
+/// What stands before the bar of a row, and what behind it. A row without one stands for both.
+pub(crate) fn parted(row: &[u8]) -> (&[u8], &[u8]) {
+    for (place, byte) in row.iter().enumerate() {
+        if *byte == b'|' && place < row.len() {
+            return (&row[..place], &row[place + 1..]);
+        }
     }
-}
-
-/// What stands before and behind the bar of a row.
-pub(crate) fn parts(row: &[u8]) -> Option<(&[u8], &[u8])> {
-    let at = row.iter().position(|byte| *byte == b'|')?;
-    let (text, rest) = row.split_at(at);
-    match rest {
-        [_, written @ ..] => Some((text, written)),
-        [] => None,
-    }
-}
-
-/// Whether the text before a bar is read, and printed as the text behind it.
-fn prints_as(alloc: Global, row: &[u8]) -> bool {
-    match parts(row) {
-        Some((line, printed)) => prints(alloc, line, printed),
-        None => false,
-    }
+    (row, row)
 }
 
 /// The name of a fault, and its field.
@@ -53,23 +35,38 @@ pub(crate) fn is_fault(fault: LineError, written: &[u8]) -> bool {
     }
 }
 
-/// Whether the text before a bar has the fault that is written behind it.
-fn refuses(alloc: Global, row: &[u8]) -> bool {
-    let Some((line, fault)) = parts(row) else {
-        return false;
-    };
-    match read_line(alloc, line) {
-        Ok(_) => false,
-        Err(first) => is_fault(first, fault),
+fn prints(alloc: Global, event: &Event, printed: &[u8]) -> bool {
+    match print_line(alloc, event) {
+        Ok(text) => text.as_slice() == printed,
+        Err(_) => false,
     }
 }
 
-/// Whether a line asks for nothing.
-fn is_silent(alloc: Global, line: &[u8]) -> bool {
-    matches!(read_line(alloc, line), Ok(None))
+/// Whether what is read of a line is printed so, is this fault, or is nothing where nothing is told.
+fn is_told(alloc: Global, read: &[Result<Option<Event>, LineError>], told: &[u8]) -> bool {
+    match read {
+        [Ok(Some(event))] => prints(alloc, event, told),
+        [Ok(None)] => told.is_empty(),
+        [Err(fault)] => is_fault(*fault, told),
+        _ => false,
+    }
 }
 
-/// A line of each word.
+/// Whether a row tells what is read of its line. What is read stands in an array, which is dropped in one step.
+fn is_so(alloc: Global, row: &[u8]) -> bool {
+    let (line, told) = parted(row);
+    let read = [read_line(alloc, line)];
+    is_told(alloc, &read, told)
+}
+
+/// Asserts that each row of a table is so.
+fn rows_are_so(rt: &impl Abort, alloc: Global, rows: &str) {
+    for row in rows.lines() {
+        assert!(rt; is_so(alloc, row.as_bytes()), "{row}");
+    }
+}
+
+/// A line of each word, printed as it is read.
 const LINES: &str = "\
 register d a ping
 unregister d a d/b
@@ -101,16 +98,6 @@ cdap d a x0800
 ledger d a
 journal w";
 
-#[test]
-fn each_word_is_read_and_printed(rt: HostRuntime) {
-    for line in LINES.lines() {
-        assert!(rt;
-            prints(rt.alloc(), line.as_bytes(), line.as_bytes()),
-            "{line}"
-        );
-    }
-}
-
 /// Other spellings, a bar, and how they are printed.
 const SPELLINGS: &str = "\
 send p x68656c6C6f|send p 'hello
@@ -121,13 +108,6 @@ alloc p d a x y within=4294967295 size=0|alloc p d a x y
 rib d a|rib d a
 rib d a /|rib d a /
 rib d a /dif/flow/1!2|rib d a /dif/flow/1!2";
-
-#[test]
-fn other_spellings_are_printed_in_one(rt: HostRuntime) {
-    for row in SPELLINGS.lines() {
-        assert!(rt; prints_as(rt.alloc(), row.as_bytes()), "{row}");
-    }
-}
 
 /// Lines, a bar, and the first fault from the left, with its field.
 const FAULTS: &str = "\
@@ -156,23 +136,17 @@ rib d b user|BadName 3
 rib d b /a//b|BadName 3
 round 1|Extra 1";
 
-#[test]
-fn the_first_fault_from_the_left_is_told(rt: HostRuntime) {
-    for row in FAULTS.lines() {
-        assert!(rt; refuses(rt.alloc(), row.as_bytes()), "{row}");
-    }
-}
-
-/// Lines that are blank or remarks.
+/// Lines that are blank or remarks, and a bar.
 const REMARKS: &str = "\
-#
-
-   
-  # send p";
+#|
+|
+   |
+  # send p|";
 
 #[test]
-fn blank_lines_and_remarks_ask_for_nothing(rt: HostRuntime) {
-    for line in REMARKS.lines() {
-        assert!(rt; is_silent(rt.alloc(), line.as_bytes()), "{line}");
-    }
+fn lines_are_read_and_printed_or_have_a_first_fault(rt: HostRuntime) {
+    rows_are_so(&rt, rt.alloc(), LINES);
+    rows_are_so(&rt, rt.alloc(), SPELLINGS);
+    rows_are_so(&rt, rt.alloc(), FAULTS);
+    rows_are_so(&rt, rt.alloc(), REMARKS);
 }

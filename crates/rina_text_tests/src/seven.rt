@@ -1,7 +1,7 @@
 //! The text that number 7 makes, whole.
 
-/// The stack.
-pub(crate) const STACK: &[u8] = b"nodes = [\"n0\", \"n1\", \"n2\", \"n3\"]
+/// A stack, a line of two percent signs, and the lines of a schedule.
+pub(crate) const TEXT: &[u8] = b"nodes = [\"n0\", \"n1\", \"n2\", \"n3\"]
 [[wire]]
 name = \"w0\"
 ends = [\"n0\", \"n1\"]
@@ -57,10 +57,8 @@ cube = [ { id = 1, kind = \"loose\", mpl = 900, window = 64, largest = 1000 }, {
 member = [ { node = \"n0\", addr = 1 }, { node = \"n1\", addr = 2 }, { node = \"n2\", addr = 3 }, { node = \"n3\", addr = 4 } ]
 link = [ { on = \"low\", a = \"n0\", b = \"n1\", cube = 2 }, { on = \"low\", a = \"n1\", b = \"n2\", cube = 1 }, { on = \"low\", a = \"n2\", b = \"n3\", cube = 2 }, { on = \"low\", a = \"n3\", b = \"n0\", cube = 1 } ]
 flow = [ { cube = 1, from = { node = \"n1\", app = \"a0\", label = \"p0\" }, to = { node = \"n0\", app = \"b0\", label = \"q0\" } }, { cube = 1, from = { node = \"n3\", app = \"a1\", label = \"p1\" }, to = { node = \"n0\", app = \"b1\", label = \"q1\" } }, { cube = 1, from = { node = \"n1\", app = \"a2\", label = \"p2\" }, to = { node = \"n0\", app = \"b2\", label = \"q2\" } }, { cube = 2, from = { node = \"n1\", app = \"a3\", label = \"p3\" }, to = { node = \"n0\", app = \"b3\", label = \"q3\" } }, { cube = 2, from = { node = \"n3\", app = \"a4\", label = \"p4\" }, to = { node = \"n2\", app = \"b4\", label = \"q4\" } }, { cube = 1, from = { node = \"n0\", app = \"a5\", label = \"p5\" }, to = { node = \"n2\", app = \"b5\", label = \"q5\" } } ]
-";
-
-/// The lines of the schedule.
-pub(crate) const SCHEDULE: &[u8] = b"send p0 z450
+%%
+send p0 z450
 send p3 z957
 send p0 z684
 send p1 z905

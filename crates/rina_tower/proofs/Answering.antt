@@ -59,7 +59,7 @@ sends_any refuses may slots slots' below node link r below' d d' s = record {
   does = s.does;
   after = s.after;
   shelf = λ alive. asks_home_any (may d.settings.policy) (IsHeld refuses (config_of d.settings) d.clock below link) d.settings.policy d.settings node link slots slots' d.processes r d'.processes (s.shelf alive);
-  failed = s.failed;
+  notes = s.notes;
   rest = s.rest;
   leaves = s.leaves;
 }

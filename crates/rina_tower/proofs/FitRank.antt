@@ -16,7 +16,9 @@ use Rattle.rina_stack.specs.Plan.{IsPlan}
 use Rattle.rina_dif.specs.declared.dif.Dif.{Dif}
 use Rattle.rina_dif.specs.Holding.{Stands}
 use Rattle.rina_dif.specs.Laying.{BindsAll, BindsInTurn, CanBindAll, CanLay, IsNew, Lays}
+use Rattle.rina_dif.specs.Linking.{IsConnected}
 use Rattle.rina_dif.specs.Planned.{links_in, links_of}
+use Rattle.rina_dif.specs.Whole.{IsDif as IsValid}
 use Rattle.rina_wire.specs.Air.{Air, seen_of as seen_of_wires}
 use Rattle.rina_wire.specs.Plan.{air_of}
 use Rattle.rina_wire.specs.Sound.{IsSound}
@@ -29,7 +31,7 @@ use Rattle.rina_tower.specs.Layout.{IsGround, IsLaying}
 use Rattle.rina_tower.specs.BuildSteps.{AreBound, AreLaid, HasBound, IsHalfMade, IsHighest, IsRaised, LaysNext}
 use Rattle.rina_tower.specs.PlanSettings.{AreOfPlan, IsAsPlanned}
 use Rattle.rina_tower.specs.Ranks.{height_of, now_of, seen_of, seen_of_difs}
-use Rattle.rina_tower.specs.Stands.{AreStanding, IsTower, kept_of}
+use Rattle.rina_tower.specs.Stands.{AreStanding, IsTower, clock_of, kept_of}
 use Rattle.rina_tower.specs.Levels.{SameBelow, same_refl, same_trans}
 use Rattle.rina_tower.proofs.FitBound.{bound_on, rank_no, rank_yes}
 use Rattle.rina_tower.proofs.FitGround.{none_flat, rank_ground, wires_ground}
@@ -219,13 +221,20 @@ laid_over plan k at d difs t is other within valid = record {
 pub may_lay : (plan : Plan) (k at : ℕ) (d : DifPlan) (difs : List Dif) (t : Tower) → slice_get plan.difs at ≡ Some d → d.rank ≡ k + 1 → at < length plan.difs → IsPlan plan → IsHalfMade plan k at difs (seen_of t) → CanLay plan at (seen_of t)
 may_lay plan k at d difs t is own within p half = can_lay plan k at half.0 difs (seen_of t) (are_named plan p) half.1 within (rank_yes plan (k + 1) at d is own) half.2
 
-pub laid_next : (plan : Plan) (k at : ℕ) (d : DifPlan) (difs difs' : List Dif) (made : Dif) (t u : Tower) → slice_get plan.difs at ≡ Some d → d.rank ≡ k + 1 → at < length plan.difs → IsPlan plan → IsTower t → IsTower u → SameBelow t u → Lays plan at (seen_of t) (seen_of u) → Stands made (seen_of u) → IsNew plan at made (seen_of t) (seen_of u) → BindsInTurn BindsWhole t (links_of plan at) u → made.laid ≡ record { is_static = d.is_static; links = d.links; wait = d.wait } → difs' ≡ difs ++ made ∷ [] → LaysNext plan k at difs t difs' u
-laid_next plan k at d difs difs' made t u is own within p valid valid' same lays stands new turn laid more = record {
+-- a DIF that stands on a tower is one
+made_valid : (d : Dif) (t : Tower) → IsTower t → Stands d (seen_of t) → IsValid d
+made_valid d t valid stands =
+    let clock = stands.1.standing.clock in
+    let ends = clock_of t valid in
+    record { below = seen_of t; stands = stands; clock = omega (arith, clock, ends) }
+
+pub laid_next : (plan : Plan) (k at : ℕ) (d : DifPlan) (difs difs' : List Dif) (made : Dif) (t u : Tower) → slice_get plan.difs at ≡ Some d → d.rank ≡ k + 1 → at < length plan.difs → IsPlan plan → IsTower t → IsTower u → SameBelow t u → Lays plan at (seen_of t) (seen_of u) → Stands made (seen_of u) → IsNew plan at made (seen_of t) (seen_of u) → ((dif : DifPlan) → slice_get plan.difs at ≡ Some dif → IsConnected made dif.manage (links_of plan at) (seen_of t) (seen_of u)) → BindsInTurn BindsWhole t (links_of plan at) u → made.laid ≡ record { is_static = d.is_static; links = d.links; wait = d.wait } → difs' ≡ difs ++ made ∷ [] → LaysNext plan k at difs t difs' u
+laid_next plan k at d difs difs' made t u is own within p valid valid' same lays stands new connected turn laid more = record {
   valid = valid';
   below = same;
   laying = λ ground g h. subst (λ (ds : List Dif). IsLaying plan k (at + 1) ground ds (seen_of u)) (sym more) (laid_on plan k at ground difs (seen_of t) (seen_of u) made (are_named plan p) within (rank_yes plan (k + 1) at d is own) (kept_of t valid) (kept_of u valid') h lays stands new);
   planned = next_planned plan at (k + 1) d difs difs' made (seen_of t) (seen_of u) is own new laid more;
-  made = λ start m. over_next plan (k + 1) at difs difs' made start t u (rank_yes plan (k + 1) at d is own) new turn more m;
+  made = λ start m. over_next plan (k + 1) at difs difs' made start t u (rank_yes plan (k + 1) at d is own) (record { is_new = new; connected = connected; stands = stands; valid = made_valid made u valid' stands }) turn more m;
 }
 
 pub all_laid : (plan : Plan) (k at n : ℕ) (t u : Tower) (difs : List Dif) → at ≤ n → n ≤ at → n ≡ length plan.difs → AreLaid plan k at t difs u → AreLaid plan k (length plan.difs) t difs u

@@ -3,13 +3,13 @@ use Rattle.std.proofs.Common.{◌≡◌, ◌∙◌, ℕ, suc, ◌+◌, cond, Boo
 use Rattle.rina_iface.specs.declared.ask.Fixed.{Fixed}
 use Rattle.rina_stack.specs.declared.plan.Plan.{Plan}
 use Rattle.rina_dif.specs.declared.dif.Dif.{Dif}
-use Rattle.rina_dif.specs.Laying.{BindsInTurn, IsNew}
+use Rattle.rina_dif.specs.Laying.{BindsInTurn}
 use Rattle.rina_dif.specs.Planned.{links_of}
 use Rattle.rina_wire.specs.Air.{Air}
 use Rattle.rina_wire.specs.Plan.{air_of}
 use Rattle.rina_tower.specs.declared.tower.Tower.{Tower, Rank', Wires}
 use Rattle.rina_tower.specs.Built.{has_rank, places_in}
-use Rattle.rina_tower.specs.BuiltWhole.{AreMadeOver, IsBuiltWhole, IsFresh}
+use Rattle.rina_tower.specs.BuiltWhole.{AreMadeOver, IsBuiltWhole, IsFresh, IsMade}
 use Rattle.rina_tower.specs.Calls.{BindsWhole}
 use Rattle.rina_tower.specs.Fits.{flows_at}
 use Rattle.rina_tower.specs.Ranks.{height_of, seen_of}
@@ -23,8 +23,8 @@ turn_on t u v (x ∷ xs) ys a b = (a.0, a.1, a.2, turn_on a.1 u v xs ys a.3 b)
 
 -- DIFs
 
-over_more : (plan : Plan) (places : List ℕ) (i : ℕ) (t : Tower) (ds : List Dif) (d : Dif) (mid u : Tower) → AreMadeOver plan places t ds mid → IsNew plan i d (seen_of mid) (seen_of u) → BindsInTurn BindsWhole mid (links_of plan i) u → AreMadeOver plan (places ++ i ∷ []) t (ds ++ d ∷ []) u
-over_more plan [] i t [] d mid u m new turn = (u, subst (λ (z : Tower). IsNew plan i d (seen_of z) (seen_of u)) m new, subst (λ (z : Tower). BindsInTurn BindsWhole z (links_of plan i) u) m turn, refl)
+over_more : (plan : Plan) (places : List ℕ) (i : ℕ) (t : Tower) (ds : List Dif) (d : Dif) (mid u : Tower) → AreMadeOver plan places t ds mid → IsMade plan i d (seen_of mid) (seen_of u) → BindsInTurn BindsWhole mid (links_of plan i) u → AreMadeOver plan (places ++ i ∷ []) t (ds ++ d ∷ []) u
+over_more plan [] i t [] d mid u m new turn = (u, subst (λ (z : Tower). IsMade plan i d (seen_of z) (seen_of u)) m new, subst (λ (z : Tower). BindsInTurn BindsWhole z (links_of plan i) u) m turn, refl)
 over_more plan [] i t (x ∷ xs) d mid u m new turn = absurd m
 over_more plan (j ∷ js) i t [] d mid u m new turn = absurd m
 over_more plan (j ∷ js) i t (x ∷ xs) d mid u m new turn = (m.0, m.1, m.2, over_more plan js i m.0 xs d mid u m.3 new turn)
@@ -36,7 +36,7 @@ over_same plan r at difs t u other m =
     subst (λ (is : List ℕ). AreMadeOver plan is t difs u) (sym places) m
 
 -- the next one was made
-pub over_next : (plan : Plan) (r at : ℕ) (difs difs' : List Dif) (made : Dif) (t u v : Tower) → has_rank plan r at ≡ true → IsNew plan at made (seen_of u) (seen_of v) → BindsInTurn BindsWhole u (links_of plan at) v → difs' ≡ difs ++ made ∷ [] → AreMadeOver plan (places_in plan r at) t difs u → AreMadeOver plan (places_in plan r (at + 1)) t difs' v
+pub over_next : (plan : Plan) (r at : ℕ) (difs difs' : List Dif) (made : Dif) (t u v : Tower) → has_rank plan r at ≡ true → IsMade plan at made (seen_of u) (seen_of v) → BindsInTurn BindsWhole u (links_of plan at) v → difs' ≡ difs ++ made ∷ [] → AreMadeOver plan (places_in plan r at) t difs u → AreMadeOver plan (places_in plan r (at + 1)) t difs' v
 over_next plan r at difs difs' made t u v own new turn more m =
     let places : places_in plan r (at + 1) ≡ places_in plan r at ++ at ∷ [] = places_more plan r at ∙ ap (λ (b : Bool). places_in plan r at ++ cond b (at ∷ []) []) own in
     let all : AreMadeOver plan (places_in plan r at ++ at ∷ []) t (difs ++ made ∷ []) v = over_more plan (places_in plan r at) at t difs made u v m new turn in

@@ -1,5 +1,5 @@
 -- A round of a tower that rests does nothing.
-use Rattle.std.proofs.Common.{◌≡◌, ◌∙◌, ℕ, ◌+◌, ◌<◌, true, false, List, [], ◌∷◌, slice_get, Option, Some, None, Result, Ok, Err, refl, sym, arith, inl, inr}
+use Rattle.std.proofs.Common.{◌≡◌, ◌∙◌, ℕ, ◌+◌, ◌<◌, true, false, List, [], ◌∷◌, slice_get, Option, Some, None, Result, Ok, Err, refl, subst, sym, arith, inl, inr}
 use Rattle.std.proofs.lemmas.Bool.{cases_eq}
 use Rattle.rina_base.specs.declared.number.Num.{Num}
 use Rattle.rina_base.specs.declared.number.Port.{Port}
@@ -18,13 +18,14 @@ use Rattle.rina_data.specs.declared.step.InStep.TheVariants as ins
 use Rattle.rina_data.specs.declared.step.OutStep.{OutStep}
 use Rattle.rina_data.specs.declared.step.OutStep.TheVariants as outs
 use Rattle.rina_data.specs.declared.step.StepError.{StepError}
-use Rattle.rina_data.specs.declared.step.StepError.TheVariants.{NoIpc, NoLink}
+use Rattle.rina_data.specs.declared.step.StepError.TheVariants.{Memory, NoIpc, NoLink}
 use Rattle.rina_data.specs.Configs.{config_of}
 use Rattle.rina_data.specs.Lower.{PassesBelow, SendsBelow}
 use Rattle.rina_data.specs.Outgoing.{IsHeld}
 use Rattle.rina_dif.specs.declared.dif.Dif.{Dif}
 use Rattle.rina_dif.specs.Claiming.{NoneComesAt}
 use Rattle.rina_dif.specs.Elsewhere.{ChangesOnly, home_of}
+use Rattle.rina_dif.specs.Facade.{NotesMemory}
 use Rattle.rina_dif.specs.Holding.{Stands}
 use Rattle.rina_dif.specs.Lower.{ClocksBelow}
 use Rattle.rina_dif.specs.Resting.{RestsUntil as DifRests}
@@ -46,6 +47,7 @@ use Rattle.rina_tower.specs.Rounds.{AllClockSteps, AllInSteps, AllMove, AllOutSt
 use Rattle.rina_tower.specs.Stands.{IsTower}
 use Rattle.rina_tower.specs.StepEffect.{StandsAfter}
 use Rattle.rina_tower.specs.Steps.{ClocksAt, ClocksOne, InSteps, OutSteps, SendsOne, TakesOne, claimant}
+use Rattle.rina_tower.proofs.Failed.{on_err}
 
 -- One DIF
 
@@ -68,17 +70,24 @@ leaves_all Ends o d = (flows_none Ends d.flows d.flows refl, none_process o d.pr
 none_comes : (d : Dif) (below : Seen) (node : ℕ) → AreClaimed below → NoneComesAt d below node
 none_comes d below node none i member may n lt = all_claimed below node member.name none n
 
+-- a step that did nothing notes no missing memory, where none was missing before
+notes_none : {T : Type 0} (DidNone : T → Type 0) (missing answer : T) → (DidNone missing → ⊥) → DidNone answer → (d : Dif) → d.failed ≡ false → NotesMemory d d answer missing
+notes_none DidNone missing answer never none d alive = record {
+  failed = λ failed. absurd (let clash : true ≡ false = sym failed ∙ alive in cc);
+  fails = (λ failed. absurd (let clash : true ≡ false = sym failed ∙ alive in cc), λ is. absurd (never (subst DidNone is none)));
+}
+
 module _ (until : ℕ) (d : Dif) (below : Seen) (st : Stands d below) (before : d.clock < until) (rest : DifRests until d below) (claimed : AreClaimed below) (node link : ℕ) where
   takes_one : (a : Result InStep StepError) × TakesNone a × TakesOne below node link a below d d
-  takes_one = (let a = in_rests until d below node link rest in (a.0, a.1, record { does = a.2; after = stands_on d below st; rest = refl; leaves = leaves_all _ _ d }))
+  takes_one = (let a = in_rests until d below node link rest in (a.0, a.1, record { does = a.2; after = stands_on d below st; rest = refl; notes = notes_none TakesNone (Err Memory) a.0 (λ none. none) a.1 d rest.alive; leaves = leaves_all _ _ d }))
 
   clocks_one : (a : Result ClockStep StepError) × DoesNone a × ClocksOne below node a below d d
-  clocks_one = (let a = clock_rests until d below node before rest (none_comes d below node claimed) in (a.0, a.1, record { does = a.2; fails = λ lines h. none_fails d lines below; after = stands_on d below st; rest = refl; leaves = leaves_all _ _ d }))
+  clocks_one = (let a = clock_rests until d below node before rest (none_comes d below node claimed) in (a.0, a.1, record { does = a.2; fails = λ lines h. none_fails d lines below; stays = on_err a.0 (d.connections ≡ d.connections) refl; after = stands_on d below st; rest = refl; notes = notes_none DoesNone (Err Memory) a.0 (λ none. none) a.1 d rest.alive; leaves = leaves_all _ _ d }))
 
   sends_one : (refuses : Port → ℕ → Option SendError) → (a : Result OutStep StepError) × SendsNone a × ((slots : List Slot) → SendsOne refuses Anything slots slots below node link a below d d)
   sends_one refuses =
       let a = out_rests refuses (Anything d.settings.policy) (IsHeld refuses (config_of d.settings) d.clock below link) until d below node link rest in
-      (a.0, a.1, λ slots. record { does = a.2; after = stands_on d below st; rest = refl; leaves = none_process (home_of d node) d.processes d.processes refl; shelf = λ alive. a.3 slots; failed = λ failed. absurd (let clash : true ≡ false = sym failed ∙ rest.alive in cc) })
+      (a.0, a.1, λ slots. record { does = a.2; after = stands_on d below st; rest = refl; leaves = none_process (home_of d node) d.processes d.processes refl; shelf = λ alive. a.3 slots; notes = notes_none SendsNone (Err Memory) a.0 (λ none. none) a.1 d rest.alive })
 
 -- The DIFs of a rank
 

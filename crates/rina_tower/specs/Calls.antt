@@ -32,11 +32,11 @@ use Rattle.rina_dif.specs.Changing.{BindsManaged}
 use Rattle.rina_dif.specs.FlowEnds.{FreesManaged}
 use Rattle.rina_flows.specs.Elsewhere.{SameBut}
 use Rattle.rina_dif.specs.Elsewhere.{ChangesOnly, IsPortAt, WhenOk, home_of}
-use Rattle.rina_dif.specs.Facade.{GoesOn, IsShownAs, PassesAt, StaysStanding, its_oldest, own_refusal, shown_as}
+use Rattle.rina_dif.specs.Facade.{GoesOn, IsShownAs, NotesMemory, PassesAt, StaysStanding, its_oldest, own_refusal, shown_as}
 use Rattle.rina_dif.specs.Freeing.{FreesAt}
 use Rattle.rina_dif.specs.Holding.{Holds}
 use Rattle.rina_dif.specs.Registering.{RegistersManaged, UnregistersManaged, register_refusal, unregister_refusal}
-use Rattle.rina_dif.specs.Requesting.{RequestsAs}
+use Rattle.rina_dif.specs.Requesting.{AsksTo, RequestsAs}
 use Rattle.rina_dif.specs.Sending.{SendsAt}
 use Rattle.rina_dif.specs.WaitingAsks.{FreesAsks}
 use Rattle.rina_dif.specs.Whole.{IsDif}
@@ -80,14 +80,16 @@ pub record Serves (call : Seen → Seen → Type 0) (changes : Dif → Dif → T
 
 -- Names and asks
 
--- what `register` does at a DIF, to the managements of its members too
+-- what `register` does at a DIF, to the managements of its members too; the DIF notes where memory was missing
 pub record RegistersFrom (fac node : ℕ) (app : List ℕ) (result : Result (Unit {0}) RegisterError) (d d' : Dif) : Type 0 where
   pub serves : Serves (λ s s'. Registers (register_refusal d node) s fac node app result s') ChangesEntries fac d d'
   pub managed : RegistersManaged result d node app d'.managements
+  pub notes : NotesMemory d d' result (Err register.Memory)
 
 pub record UnregistersFrom (fac node : ℕ) (app : List ℕ) (result : Result (Unit {0}) UnregisterError) (d d' : Dif) : Type 0 where
   pub serves : Serves (λ s s'. Unregisters (unregister_refusal d node) s fac node app result s') ChangesEntries fac d d'
   pub managed : UnregistersManaged result d node app d'.managements
+  pub notes : NotesMemory d d' result (Err unregister.Memory)
 
 abbrev pub RegistersAtTop : ℕ → ℕ → List ℕ → Result (Unit {0}) RegisterError → Tower → Tower → Type 0
 RegistersAtTop fac node app result (Wires a) (Wires a') = RegistersOn a fac node app result a'
@@ -109,11 +111,13 @@ UnregistersAtTop fac node app result t t' = ⊥
 abbrev pub UnregistersWhole : Tower → ℕ → ℕ → List ℕ → Result (Unit {0}) UnregisterError → Tower → Type 0
 UnregistersWhole t fac node app result t' = (has_failed t ≡ false → UnregistersAtTop fac node app result t t') × (has_failed t ≡ true → (result ≡ Err unregister.Memory) × (t' ≡ t))
 
--- what `allocate` does at a DIF that is the facility that is meant: to the managements of its members too, and each connection that was there stays as
--- it was
+-- what `allocate` does at a DIF that is the facility that is meant: by whatever directions the DIF holds, to the managements of its members too, and each
+-- connection that was there stays as it was
 pub record AllocatesFrom (ask : Ask) (result : Result Port AllocateError) (d d' : Dif) : Type 0 where
   pub serves : Serves (λ s s'. d.settings.fac ≡ ask.fac → Allocates (allocate_refusal d ask) s ask result s') ChangesAsks ask.fac d d'
+  pub does : (lines : List Direction) (below : Seen) → Holds d lines below → AsksTo d lines below ask result d'
   pub requests : RequestsAs result d ask d'
+  pub notes : NotesMemory d d' result (Err allocate.Memory)
   pub leaves : SameBut (λ i. length d.flows.conns ≤ i) d.flows.conns d'.flows.conns
 
 abbrev pub AllocatesAtTop : Ask → Result Port AllocateError → Tower → Tower → Type 0
@@ -131,6 +135,7 @@ pub record BindsFrom (fixed : Fixed) (result : Result (Port × Port) AllocateErr
   pub serves : Serves (λ s s'. Binds s fixed result s') ChangesNames fixed.fac d d'
   pub does : (lines : List Direction) (below : Seen) → Holds d lines below → BindsTo d lines below fixed result d'
   pub managed : BindsManaged result d fixed d'.managements
+  pub notes : NotesMemory d d' result (Err allocate.Memory)
   pub leaves : SameBut (λ i. length d.flows.conns ≤ i) d.flows.conns d'.flows.conns
 
 -- under the condition of `bind` there is such a DIF
@@ -157,6 +162,7 @@ ClaimsAtTop fac node app result t t' = ⊥
 pub record SendsFrom (port : Port) (bytes : List ℕ) (result : Result Num SendError) (d d' : Dif) : Type 0 where
   pub serves : Serves (λ s s'. Sends (own_refusal d port (length bytes)) s port bytes result s') ChangesTraffic port.fac d d'
   pub does : (lines : List Direction) (below : Seen) → Holds d lines below → SendsAt (place_in port d.flows.journal.ends) d lines below bytes result d'
+  pub notes : NotesMemory d d' result (Err send.Memory)
   pub leaves : ChangesOnly (λ i. WhenOk result (IsPortAt d port i)) (home_of d port.node) d d'
 
 abbrev pub SendsAtTop : Port → List ℕ → Result Num SendError → Tower → Tower → Type 0
@@ -189,6 +195,7 @@ pub record FreesFrom (port : Port) (result : Result (Unit {0}) FreeError) (d d' 
   pub does : (lines : List Direction) (below : Seen) → Holds d lines below → FreesAt (place_in port d.flows.journal.ends) d lines below result d'
   pub managed : FreesManaged (place_in port d.flows.journal.ends) result d d'.managements
   pub asks : FreesAsks (place_in port d.flows.journal.ends) result d d'.asks.items
+  pub notes : NotesMemory d d' result (Err free.Memory)
   pub leaves : ChangesOnly (λ i. WhenOk result (IsPortAt d port i)) (home_of d port.node) d d'
 
 abbrev pub FreesAtTop : Port → Result (Unit {0}) FreeError → Tower → Tower → Type 0

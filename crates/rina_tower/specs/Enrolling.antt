@@ -11,7 +11,7 @@ use Rattle.rina_dif.specs.declared.enrol.EnrolError.{EnrolError}
 use Rattle.rina_dif.specs.declared.enrol.EnrolError.TheVariants.{Memory, NoIpc}
 use Rattle.rina_dif.specs.Elsewhere.{ChangesProcess, home_of}
 use Rattle.rina_dif.specs.Enrolling.{AllocatesAsSeen, AllocatesBelow, EnrolsAs}
-use Rattle.rina_dif.specs.Facade.{GoesOn, OthersStand}
+use Rattle.rina_dif.specs.Facade.{GoesOn, NotesMemory, OthersStand}
 use Rattle.rina_dif.specs.Holding.{Stands}
 use Rattle.rina_dif.specs.Shown.{seen_of as seen_of_dif}
 use Rattle.rina_tower.specs.declared.tower.Tower.{Tower, Wires, Rank'}
@@ -26,6 +26,7 @@ use Rattle.rina_tower.specs.Unchanged.{ChangesJoiner}
 pub record EnrolsOne (refuses : Ask → Option AllocateError) (below : Seen) (node fac peer : ℕ) (result : Result (Unit {0}) EnrolError) (below' : Seen) (d d' : Dif) : Type 0 where
   pub does : d.failed ≡ false → EnrolsAs refuses d below node fac peer result d' below'
   pub failed : d.failed ≡ true → (result ≡ Err Memory) × (d' ≡ d) × (below' ≡ below)
+  pub notes : NotesMemory d d' result (Err Memory)
   pub stands : Stands d' below'
   pub goes_on : GoesOn d d'
   pub silent : IsSilent (seen_of_dif d) (seen_of_dif d')

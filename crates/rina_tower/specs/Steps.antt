@@ -1,5 +1,5 @@
 -- What the steps of the DIFs do at rank r of a tower.
-use Rattle.std.specs.Prelude.{◌≡◌, ℕ, true, false, List, [], slice_get, Option, Some, None, Result, Err}
+use Rattle.std.specs.Prelude.{◌≡◌, ℕ, true, false, List, [], slice_get, Option, Some, None, Result, Err, OnErr}
 use Rattle.rina_base.specs.declared.number.Port.{Port}
 use Rattle.rina_iface.specs.declared.error.SendError.{SendError}
 use Rattle.rina_iface.specs.Free.{FreesAsSeen}
@@ -20,6 +20,7 @@ use Rattle.rina_data.specs.Outgoing.{IsHeld}
 use Rattle.rina_dif.specs.declared.dif.Dif.{Dif}
 use Rattle.rina_dif.specs.Clocking.{ClockSteps, FailsLate}
 use Rattle.rina_dif.specs.Elsewhere.{ChangesOnly, ChangesProcess, MayClock, MayTake, home_of}
+use Rattle.rina_dif.specs.Facade.{NotesMemory}
 use Rattle.rina_dif.specs.Holding.{Holds}
 use Rattle.rina_dif.specs.Lower.{ClocksBelow, name_here}
 use Rattle.rina_dif.specs.Shown.{seen_of as seen_of_dif}
@@ -41,6 +42,7 @@ pub record TakesOne (below : Seen) (node link : ℕ) (result : Result InStep Ste
   pub does : (lines : List Direction) → Holds d lines below → TakesHome d lines below node link result d' below'
   pub after : StandsAfter below below' d d'
   pub rest : ChangesConnections d d'
+  pub notes : NotesMemory d d' result (Err Memory)
   pub leaves : ChangesOnly (MayTake result d (home_of d node)) (home_of d node) d d'
 
 -- at the top rank: the DIF of that place, over the rank below, where one SDU is passed at most and nothing else changes
@@ -64,7 +66,7 @@ pub record SendsOne (refuses : Port → ℕ → Option SendError) (may : List �
   pub rest : ChangesProcesses d d'
   pub leaves : ChangesProcess (home_of d node) d.processes d'.processes
   pub shelf : d.failed ≡ false → AsksHome (may d.settings.policy) (IsHeld refuses (config_of d.settings) d.clock below link) d.settings node link slots slots' d.processes result d'.processes
-  pub failed : d.failed ≡ true → result ≡ Err Memory
+  pub notes : NotesMemory d d' result (Err Memory)
 
 -- over the rank below, where one SDU is sent at most, or refused, and nothing else changes
 abbrev pub OutStepsAtTop : (List ℕ → ℕ → List Head → ℕ → Type 0) → List Slot → List Slot → ℕ → ℕ → ℕ → Result OutStep StepError → Tower → Tower → Type 0
@@ -86,8 +88,10 @@ OutSteps may slots slots' r dif node link result t t' =
 pub record ClocksOne (below : Seen) (node : ℕ) (result : Result ClockStep StepError) (below' : Seen) (d d' : Dif) : Type 0 where
   pub does : (lines : List Direction) → Holds d lines below → ClockSteps d lines below node result d' below'
   pub fails : (lines : List Direction) → Holds d lines below → FailsLate d lines below d'
+  pub stays : OnErr result (d'.connections ≡ d.connections)
   pub after : StandsAfter below below' d d'
   pub rest : ChangesByClock d d'
+  pub notes : NotesMemory d d' result (Err Memory)
   pub leaves : ChangesOnly (MayClock result d (home_of d node)) (home_of d node) d d'
 
 -- the name of a member of a DIF, in which far ends are claimed below

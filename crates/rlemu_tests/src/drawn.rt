@@ -37,10 +37,10 @@ fn a_hundred_drawn_inputs_are_read(rt: HostRuntime) -> Result<(), Fail> {
     Ok(())
 }
 
-/// Whether the run of the input that a number draws is done, and told by its summary alone.
+/// Whether the run of the input that a number draws is done, and told by its summary alone, which has the number and 307 lines.
 fn is_done(alloc: Global, number: &str) -> Result<bool, Fail> {
     let ended = ended_of(alloc, &["gen", number], "", &[], &[])?;
-    let summary = format!(in alloc; "gen {number} ")?;
+    let summary = format!(in alloc; "gen {number} lines 307 tick ")?;
     Ok(
         ended.status == Status::Done
             && ended.notes == 1
@@ -82,5 +82,94 @@ fn the_inputs_drawn_from_6_to_8_are_done(rt: HostRuntime) -> Result<(), Fail> {
 #[test]
 fn the_inputs_drawn_from_9_to_11_are_done(rt: HostRuntime) -> Result<(), Fail> {
     assert_eq!(rt; other_than_done(rt.alloc(), &["9", "10", "11"])?, None);
+    Ok(())
+}
+
+/// All that a run with these words writes.
+fn written_by(alloc: Global, words: &[&str], input: &str) -> Result<Vec<u8>, Fail> {
+    Ok(ended_of(alloc, words, input, &[], &[])?.written)
+}
+
+#[test]
+fn the_run_of_a_drawn_input_is_the_same_each_time(rt: HostRuntime) -> Result<(), Fail> {
+    let alloc = rt.alloc();
+    let first = written_by(alloc, &["gen", "7"], "")?;
+    let second = written_by(alloc, &["gen", "7"], "")?;
+    assert!(rt; first.as_slice() == second.as_slice());
+    Ok(())
+}
+
+/// The lines that ask for all that the IPC processes of the input drawn from 7 wrote off: it has four nodes.
+const LEDGERS_OF_7: &str = "ledger low n0
+ledger low n1
+ledger low n2
+ledger low n3
+ledger high n0
+ledger high n1
+ledger high n2
+ledger high n3
+";
+
+/// And of the input drawn from 11: it has three nodes.
+const LEDGERS_OF_11: &str = "ledger low n0
+ledger low n1
+ledger low n2
+ledger high n0
+ledger high n1
+ledger high n2
+";
+
+/// What is shown of a number, and these lines behind it.
+fn shown_with(alloc: Global, number: &str, lines: &str) -> Result<String, Fail> {
+    let shown = written_by(alloc, &["show", number], "")?;
+    let shown = str::from_utf8(shown.as_slice())?;
+    Ok(format!(in alloc; "{shown}{lines}")?)
+}
+
+/// How many notes have this word.
+fn times_told(notes: &[u8], word: &[u8]) -> usize {
+    let mut times = 0usize;
+    for note in notes.lines() {
+        if note.contains_str(word) {
+            times = times.saturating_add(1);
+        }
+    }
+    times
+}
+
+/// The summary that these notes of a run come to, behind whose lines the ledgers are asked for: the tick at its end, and how many
+/// notes tell of an SDU that was sent, of one that was got, of a refused line, of a write-off, and of an end that failed.
+fn summed(alloc: Global, number: &str, notes: &str) -> Result<String, Fail> {
+    let tick = notes.split_once("\nend ").ok_or("no end")?.1.trim_end();
+    let notes = notes.as_bytes();
+    let sent = times_told(notes, b" sent ");
+    let got = times_told(notes, b" got ");
+    let refused = times_told(notes, b" no ");
+    let off = times_told(notes, b" off ");
+    let failed = times_told(notes, b" failed ");
+    Ok(format!(in alloc;
+        "gen {number} lines 307 tick {tick} sent {sent} got {got} refused {refused} off {off} failed {failed}\n"
+    )?)
+}
+
+/// Whether the counts that are told of the input that a number draws are those of a run of what is shown of it, where these lines
+/// ask for its ledgers.
+fn is_summed_up(alloc: Global, number: &str, ledgers: &str) -> Result<bool, Fail> {
+    let input = shown_with(alloc, number, ledgers)?;
+    let notes = written_by(alloc, &["run"], input.as_str())?;
+    let summary = summed(alloc, number, str::from_utf8(notes.as_slice())?)?;
+    let drawn = written_by(alloc, &["gen", number], "")?;
+    Ok(drawn.as_slice() == summary.as_bytes())
+}
+
+#[test]
+fn the_summary_of_7_has_the_counts_of_its_run(rt: HostRuntime) -> Result<(), Fail> {
+    assert!(rt; is_summed_up(rt.alloc(), "7", LEDGERS_OF_7)?);
+    Ok(())
+}
+
+#[test]
+fn the_summary_of_11_has_the_counts_of_its_run(rt: HostRuntime) -> Result<(), Fail> {
+    assert!(rt; is_summed_up(rt.alloc(), "11", LEDGERS_OF_11)?);
     Ok(())
 }

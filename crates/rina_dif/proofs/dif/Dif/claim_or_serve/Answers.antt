@@ -11,7 +11,9 @@ use Rattle.rina_dif.specs.Clocking.{ClaimsOrServes, ServesAnyHere}
 use Rattle.rina_dif.specs.Elsewhere.{ChangesOnly, MayClock}
 use Rattle.rina_dif.specs.Holding.{Holds}
 use Rattle.rina_dif.specs.Lower.{ClaimsLower, name_of}
+use Rattle.rina_dif.specs.WaitingAsks.{KeepsStep}
 use Rattle.rina_dif.proofs.ClaimedFirst.{clocks_err, manages_over, serves_behind, tells_no_link, then_clocks}
+use Rattle.rina_dif.proofs.KeptAsks.{none_keeps}
 use Rattle.rina_dif.proofs.dif.Dif.claim_or_serve.Goals as goal
 
 pub returns-in_err-link-clause-does : goal.returns-in_err-link-clause-does
@@ -74,3 +76,18 @@ returns-in-None-clause-leaves g c =
     let st = c.requires.stands in
     let here = subst (λ (o : Option ℕ). ClaimsHere d st.0 (g.F.Facility.seen c.args.below.now) c.args.node (Ok o) c.claim_at.new.self (g.F.Facility.seen c.claim_at.new.below)) c.in-None.is (c.in_ok-link.ensures.does st.0 st.1) in
     subst (λ (z : Dif). ChangesOnly (MayClock c.serve_any.result z (Some c.args.at)) (Some c.args.at) z c.serve_any.new.self) here.1 c.serve_any.ensures.leaves
+
+pub returns-in_err-link-clause-keeps : goal.returns-in_err-link-clause-keeps
+returns-in_err-link-clause-keeps g c =
+    let err = err_from_is_err_and c.from_residual.result c.from_residual.ensures.1 in
+    none_keeps c.args.self.now c.args.node c.from_residual.result err.0 c.claim_at.new.self err.2 err.1 (ap (λ (z : Dif). z.asks) c.in_err-link.ensures.whole)
+
+pub returns-in-Some-clause-keeps : goal.returns-in-Some-clause-keeps
+returns-in-Some-clause-keeps g c = ap (λ (z : Dif). z.asks) c.in_ok-link.ensures.whole
+
+pub returns-in-None-clause-keeps : goal.returns-in-None-clause-keeps
+returns-in-None-clause-keeps g c =
+    let d = c.args.self.now in
+    let st = c.requires.stands in
+    let here = subst (λ (o : Option ℕ). ClaimsHere d st.0 (g.F.Facility.seen c.args.below.now) c.args.node (Ok o) c.claim_at.new.self (g.F.Facility.seen c.claim_at.new.below)) c.in-None.is (c.in_ok-link.ensures.does st.0 st.1) in
+    subst (λ (z : Dif). KeepsStep c.serve_any.result z c.args.node c.serve_any.new.self) here.1 c.serve_any.ensures.keeps

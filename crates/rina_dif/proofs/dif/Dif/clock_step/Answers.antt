@@ -9,7 +9,7 @@ use Rattle.rina_dif.proofs.dif.Dif.clock_step.Goals as goal
 
 pub returns-clause-does : goal.returns-clause-does
 returns-clause-does g c = λ lines h.
-    steps_home c.args.self.now lines (g.F.Facility.seen c.args.below.now) c.args.node c.in-Some.at c.step_at-step.result c.remember_memory_failure.result c.step_at-step.new.self (g.F.Facility.seen c.step_at-step.new.below) c.remember_memory_failure.new.failed (c.step_at-step.ensures.same.1 ∙ c.if-self.false) c.remember_memory_failure.ensures.noted.0 (sym c.place_at_node.ensures.place ∙ c.in-Some.is) c.remember_memory_failure.ensures.same (c.step_at-step.ensures.does lines h) c.step_at-step.ensures.manages
+    steps_home c.args.self.now lines (g.F.Facility.seen c.args.below.now) c.args.node c.in-Some.at c.step_at-step.result c.remember_memory_failure.result c.step_at-step.new.self (g.F.Facility.seen c.step_at-step.new.below) c.remember_memory_failure.new.failed (c.step_at-step.ensures.same.1 ∙ c.if-self.false) c.remember_memory_failure.ensures.noted.0 (sym c.place_at_node.ensures.place ∙ c.in-Some.is) c.remember_memory_failure.ensures.same (c.step_at-step.ensures.does lines h) c.step_at-step.ensures.manages c.step_at-step.ensures.keeps
 
 pub returns-clause-fails_late : goal.returns-clause-fails_late
 returns-clause-fails_late g c = λ lines h.

@@ -76,7 +76,7 @@ pub handled_ahead-requires-clause-stands : goal.handled_ahead-requires-clause-st
 handled_ahead-requires-clause-stands g c = (g.F.Facility.seen c.args.below.now, c.requires.stands)
 
 pub returns-in-Err-Memory-clause-does : goal.returns-in-Err-Memory-clause-does
-returns-in-Err-Memory-clause-does g c = λ lines h. took_none c.args.self.now lines (g.F.Facility.seen c.args.below.now) c.args.at c.args.link c.args.self.now MemoryWanted (Err MemoryWanted) refl refl (refl, h, refl) refl
+returns-in-Err-Memory-clause-does g c = λ lines h. took_none c.args.self.now lines (g.F.Facility.seen c.args.below.now) c.args.at c.args.link c.args.self.now MemoryWanted (Err MemoryWanted) refl refl (refl, h, refl) refl refl
 
 pub returns-in-Err-CountSpent-clause-does : goal.returns-in-Err-CountSpent-clause-does
 returns-in-Err-CountSpent-clause-does g c = λ lines h.
@@ -110,7 +110,7 @@ returns-in_err-end-clause-does g c = λ lines h.
     let opens = ap (option_map hop_of) (sym c.in-Some-open.is) ∙ c.open.ensures.exact in
     let there = comes_there d lines below at n p link lent.at lent.bytes.now hop kept c.requires.at h c.in-Some.ensures is_link c.in-Some-peek.ensures opens in
     let err = err_from_is_err_and c.from_residual-in_err-end.result c.from_residual-in_err-end.ensures.1 in
-    took_none d lines below at n c.settle.new.self err.0 c.from_residual-in_err-end.result err.2 err.1 (c.in_err-end.ensures.does lines below h kept there (oldest_there d below link.port lent.at lent.bytes.now hop c.in-Some-peek.ensures opens)) (ap (λ (z : Dif). z.managements) c.in_err-end.ensures.whole)
+    took_none d lines below at n c.settle.new.self err.0 c.from_residual-in_err-end.result err.2 err.1 (c.in_err-end.ensures.does lines below h kept there (oldest_there d below link.port lent.at lent.bytes.now hop c.in-Some-peek.ensures opens)) (ap (λ (z : Dif). z.managements) c.in_err-end.ensures.whole) (ap (λ (z : Dif). z.asks) c.in_err-end.ensures.whole)
 
 pub handle_messages-requires-clause-stands : goal.handle_messages-requires-clause-stands
 handle_messages-requires-clause-stands g c =
@@ -189,7 +189,7 @@ flow_messages_ahead-requires g c = record { valid = stands_whole c.args.self.now
 pub returns-in_err-messages-clause-does : goal.returns-in_err-messages-clause-does
 returns-in_err-messages-clause-does g c = λ lines h.
     let err = err_from_is_err_and c.from_residual.result c.from_residual.ensures.1 in
-    took_none c.args.self.now lines (g.F.Facility.seen c.args.below.now) c.args.at c.args.link c.args.self.now err.0 c.from_residual.result err.2 err.1 (refl, h, refl) refl
+    took_none c.args.self.now lines (g.F.Facility.seen c.args.below.now) c.args.at c.args.link c.args.self.now err.0 c.from_residual.result err.2 err.1 (refl, h, refl) refl refl
 
 pub returns-in_err-take_messages-clause-does : goal.returns-in_err-take_messages-clause-does
 returns-in_err-take_messages-clause-does g c = λ lines h.
@@ -210,7 +210,7 @@ returns-in_err-take_messages-clause-does g c = λ lines h.
     let kept' = g.met.F.Facility.kept c.pass.new.self c.pass.ensures.valid in
     let t = took_it d lines below at n p link lent.at lent.bytes.now hop c.key-key.result c.in_ok-end.end c.settle.new.self (g.F.Facility.seen c.pass.new.self) kept kept' c.requires.at h c.in-Some.ensures is_link c.in-Some-peek.ensures opens c.key-key.ensures there c.in_ok-end.ensures.does c.pass.ensures.does in
     let err = err_from_is_err_and c.from_residual-in_err-take_messages.result c.from_residual-in_err-take_messages.ensures.1 in
-    took_and_handled d lines below at n lent.at p link hop c.key-key.result c.in_ok-end.end c.settle.new.self (g.F.Facility.seen c.pass.new.self) c.in-Ok.handled c.handle_messages.new.self c.in_ok-messages.messages.items (Err c.in_err-take_messages.field-0.0) c.from_residual-in_err-take_messages.result c.take_messages.new.self c.in-Some.ensures is_link oldest t c.in-Ok.ensures c.handle_messages.ensures.does (ap (λ (z : Dif). z.managements) c.in_ok-end.ensures.whole) c.in_ok-messages.ensures c.in_err-take_messages.ensures.does (ap (λ (z : Dif). z.failed) c.in_err-take_messages.ensures.whole) (err.1 ∙ ap (λ (e : StepError). Err e) err.2)
+    took_and_handled d lines below at n lent.at p link hop c.key-key.result c.in_ok-end.end c.settle.new.self (g.F.Facility.seen c.pass.new.self) c.in-Ok.handled c.handle_messages.new.self c.in_ok-messages.messages.items (Err c.in_err-take_messages.field-0.0) c.from_residual-in_err-take_messages.result c.take_messages.new.self c.in-Some.ensures is_link oldest t c.in-Ok.ensures c.handle_messages.ensures.does (ap (λ (z : Dif). z.managements) c.in_ok-end.ensures.whole) (ap (λ (z : Dif). z.asks) c.in_ok-end.ensures.whole) c.in_ok-messages.ensures c.in_err-take_messages.ensures.does (ap (λ (z : Dif). z.failed) c.in_err-take_messages.ensures.whole) (err.1 ∙ ap (λ (e : StepError). Err e) err.2)
 
 pub returns-clause-does : goal.returns-clause-does
 returns-clause-does g c = λ lines h.
@@ -230,7 +230,7 @@ returns-clause-does g c = λ lines h.
     let oldest = oldest_there d below link.port lent.at lent.bytes.now hop c.in-Some-peek.ensures opens in
     let kept' = g.met.F.Facility.kept c.pass.new.self c.pass.ensures.valid in
     let t = took_it d lines below at n p link lent.at lent.bytes.now hop c.key-key.result c.in_ok-end.end c.settle.new.self (g.F.Facility.seen c.pass.new.self) kept kept' c.requires.at h c.in-Some.ensures is_link c.in-Some-peek.ensures opens c.key-key.ensures there c.in_ok-end.ensures.does c.pass.ensures.does in
-    took_and_handled d lines below at n lent.at p link hop c.key-key.result c.in_ok-end.end c.settle.new.self (g.F.Facility.seen c.pass.new.self) c.in-Ok.handled c.handle_messages.new.self c.in_ok-messages.messages.items (Ok tt) _ c.take_messages.new.self c.in-Some.ensures is_link oldest t c.in-Ok.ensures c.handle_messages.ensures.does (ap (λ (z : Dif). z.managements) c.in_ok-end.ensures.whole) c.in_ok-messages.ensures c.in_ok-take_messages.ensures.does (ap (λ (z : Dif). z.failed) c.in_ok-take_messages.ensures.whole) refl
+    took_and_handled d lines below at n lent.at p link hop c.key-key.result c.in_ok-end.end c.settle.new.self (g.F.Facility.seen c.pass.new.self) c.in-Ok.handled c.handle_messages.new.self c.in_ok-messages.messages.items (Ok tt) _ c.take_messages.new.self c.in-Some.ensures is_link oldest t c.in-Ok.ensures c.handle_messages.ensures.does (ap (λ (z : Dif). z.managements) c.in_ok-end.ensures.whole) (ap (λ (z : Dif). z.asks) c.in_ok-end.ensures.whole) c.in_ok-messages.ensures c.in_ok-take_messages.ensures.does (ap (λ (z : Dif). z.failed) c.in_ok-take_messages.ensures.whole) refl
 
 pub returns-in_err-messages-clause-leaves : goal.returns-in_err-messages-clause-leaves
 returns-in_err-messages-clause-leaves g c =

@@ -92,7 +92,7 @@ returns-clause-exact g c =
     let seen = g.F.Facility.seen in
     let started = same_started dif.is_static made.settings.cubes made.settings.cubes made.settings.members made.settings.members c.as_slice-plans.result.now dif.links c.as_slice-rules.result.now dif.rules dif.allow linked managements refl refl c.as_slice-plans.ensures c.as_slice-rules.ensures c.in_ok-managements.ensures in
     let routed = same_routed c.as_slice-members.result.now made.settings.members c.as_slice.result.now managements linked c.route_all.new.processes c.as_slice-members.ensures c.as_slice.ensures c.in_ok-route_all.ensures in
-    made_new c.args.plan.now c.args.at dif (record made { processes = c.route_all.new.processes; managements = managements; laid = c.in_ok-made-2.field-0; connections = c.in_ok-connections.connections }) (seen c.args.below.now) (seen c.lay_links.new.below) c.requires.plan c.in-Some.ensures (c.in_ok-made.ensures.settings ∙ c.in_ok-settings.ensures) (c.in_ok-made.ensures.clock ∙ c.now.ensures) c.in_ok-made.ensures.alive bare.ends bare.conns bare.waiting bare.names c.in_ok-ports.ports linked c.in_ok-made.ensures.named c.in_ok-ports.ensures.ok started routed c.in_ok-made.ensures.enrolled
+    made_new c.args.plan.now c.args.at dif (record made { processes = c.route_all.new.processes; managements = managements; laid = c.in_ok-made-2.field-0; connections = c.in_ok-connections.connections }) (seen c.args.below.now) (seen c.lay_links.new.below) c.requires.plan c.in-Some.ensures (c.in_ok-made.ensures.settings ∙ c.in_ok-settings.ensures) (c.in_ok-made.ensures.clock ∙ c.now.ensures) c.in_ok-made.ensures.alive bare.ends bare.conns bare.waiting bare.asks bare.names c.in_ok-ports.ports linked c.in_ok-made.ensures.named c.in_ok-ports.ensures.ok started routed c.in_ok-made.ensures.enrolled
 
 pub returns-clause-whole : goal.returns-clause-whole
 returns-clause-whole g c = subst (λ (fs : List Fixed). BindsInTurn g.F.Facility.does_bind c.args.below.now fs c.lay_links.new.below) (sym (its_links c.args.plan.now c.args.at c.in-Some.dif.now c.in-Some.ensures)) c.in_ok-ports.ensures.whole

@@ -4,11 +4,17 @@ use Rattle.rina_law.specs.Direction.{Direction}
 use Rattle.rina_dif.specs.declared.dif.Dif.{Dif}
 use Rattle.rina_dif.specs.Holding.{Holds}
 use Rattle.rina_dif.specs.Messaging.{OffersAt}
-use Rattle.rina_dif.proofs.Among.{none_among, none_here, one_among}
+use Rattle.rina_dif.proofs.Among.{none_among, none_here, none_waits, one_among}
 use Rattle.rina_dif.specs.Elsewhere.{ChangesProcess}
 use Rattle.rina_dif.proofs.Elsewhere.{none_process}
 use Rattle.rina_dif.proofs.Leaves.{has_process}
 use Rattle.rina_dif.proofs.dif.Dif.offer_message.Goals as goal
+
+pub returns-then-not-has_waiting-clause-does : goal.returns-then-not-has_waiting-clause-does
+returns-then-not-has_waiting-clause-does g c = λ lines h. (
+  λ links place number due. none_waits c.args.self.now (g.F.Facility.seen c.args.below.now) links.lines c.args.at place number c.has_waiting.result c.has_waiting.ensures c.if-not-has_waiting.true due,
+  refl,
+)
 
 pub offer_on-requires-clause-tell : goal.offer_on-requires-clause-tell
 offer_on-requires-clause-tell g c = λ k x is. c.requires.tell k x (ap (λ (z : Dif). slice_get z.managements k) (sym c.loop-number.invariant.same) ∙ is)

@@ -7,6 +7,7 @@ use Rattle.rina_dif.specs.declared.dif.Dif.{Dif}
 use Rattle.rina_dif.specs.Clocking.{ServesHere}
 use Rattle.rina_dif.specs.Holding.{Holds, Stands}
 use Rattle.rina_dif.specs.Messaging.{OffersAmong}
+use Rattle.rina_dif.proofs.KeptAsks.{none_keeps}
 use Rattle.rina_dif.proofs.MessageSteps.{idle_below, idle_same, manages_none, message_manages, message_serves, none_serves, serves_more, serves_none, stays_none, tell_short}
 use Rattle.rina_dif.proofs.dif.Dif.serve_any.Goals as goal
 
@@ -132,6 +133,28 @@ returns-in_err-link-in-Idle-clause-manages g c =
     let stays = c.in_err-link-in-Idle.ensures.does st.0 (subst (λ (s : Seen). Holds d1 st.0 s) (sym seen) (subst (λ (z : Dif). Holds z st.0 below) (sym same) st.1)) in
     manages_none d c.offer_message.new.self below (Some c.args.at) c.args.node c.from_residual-in_err-link-in-Idle.result err.0 err.1 (stays ∙ same)
 
+pub returns-in-Some-clause-keeps : goal.returns-in-Some-clause-keeps
+returns-in-Some-clause-keeps g c =
+    let d = c.args.self.now in
+    let d1 = c.serve_next.new.self in
+    let same : d1 ≡ d = idle_same c.in_ok-done.done (d1 ≡ d) c.in-Idle.is c.in_ok-done.ensures.idle in
+    ap (λ (z : Dif). z.asks) c.in_ok-link-in-Idle.ensures.whole ∙ ap (λ (z : Dif). z.asks) same
+
+pub returns-in-None-clause-keeps : goal.returns-in-None-clause-keeps
+returns-in-None-clause-keeps g c =
+    let d = c.args.self.now in
+    let d1 = c.serve_next.new.self in
+    let same : d1 ≡ d = idle_same c.in_ok-done.done (d1 ≡ d) c.in-Idle.is c.in_ok-done.ensures.idle in
+    ap (λ (z : Dif). z.asks) c.in_ok-link-in-Idle.ensures.whole ∙ ap (λ (z : Dif). z.asks) same
+
+pub returns-in_err-link-in-Idle-clause-keeps : goal.returns-in_err-link-in-Idle-clause-keeps
+returns-in_err-link-in-Idle-clause-keeps g c =
+    let d = c.args.self.now in
+    let d1 = c.serve_next.new.self in
+    let same : d1 ≡ d = idle_same c.in_ok-done.done (d1 ≡ d) c.in-Idle.is c.in_ok-done.ensures.idle in
+    let err = err_from_is_err_and c.from_residual-in_err-link-in-Idle.result c.from_residual-in_err-link-in-Idle.ensures.1 in
+    none_keeps d c.args.node c.from_residual-in_err-link-in-Idle.result err.0 c.offer_message.new.self err.2 err.1 (ap (λ (z : Dif). z.asks) c.in_err-link-in-Idle.ensures.whole ∙ ap (λ (z : Dif). z.asks) same)
+
 pub returns-in_default : goal.returns-in_default
 returns-in_default g c =
     let below = g.F.Facility.seen c.args.below.now in
@@ -147,5 +170,6 @@ returns-in_default g c =
       whole = s.whole;
       stays = s.stays;
       manages = s.manages;
+      keeps = s.keeps;
       leaves = s.leaves;
     }

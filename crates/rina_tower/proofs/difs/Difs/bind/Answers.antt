@@ -14,7 +14,7 @@ bind-requires-clause-may c =
 pub returns-clause-does : goal.returns-clause-does
 returns-clause-does c =
     let k = c.bind.ensures in
-    at_one _ c.args.fixed.now.fac c.args.self.now c.self.inside.items.items c.in-Some._dif.now _ c.index_mut-one.result.now c.bind.new.self c.self.view_is c.in-Some.ensures c.index_mut-one.ensures.value (record { serves = record { shown = k.shown; goes_on = k.goes_on; stands = k.stands; settings = k.settings; laid = k.laid; rest = k.whole }; does = k.does; managed = k.manages; leaves = k.keeps })
+    at_one _ c.args.fixed.now.fac c.args.self.now c.self.inside.items.items c.in-Some._dif.now _ c.index_mut-one.result.now c.bind.new.self c.self.view_is c.in-Some.ensures c.index_mut-one.ensures.value (record { serves = record { shown = k.shown; goes_on = k.goes_on; stands = k.stands; settings = k.settings; laid = k.laid; rest = k.whole }; does = k.does; managed = k.manages; notes = record { failed = k.failed; fails = k.fails }; leaves = k.keeps })
 
 pub returns-clause-fails : goal.returns-clause-fails
 returns-clause-fails c = λ h. failed_at c.args.fixed.now.fac c.args.self.now c.self.inside.items.items c.in-Some._dif.now c.bind.new.self c.self.view_is c.in-Some.ensures (c.bind.ensures.fails.1 h)

@@ -17,7 +17,7 @@ returns-clause-does g c =
     let below' = g.F.Facility.seen c.clock_step.new.below in
     let at = one_at c.args.dif c.args.self.now c.self.inside.items.items c.in-Some._dif.now _ one c.self.view_is c.in-Some.ensures c.index_mut-one.ensures.value in
     let st = c.requires.stand.stand c.args.dif one at in
-    inl (at_one _ c.args.dif c.args.self.now c.self.inside.items.items c.in-Some._dif.now _ one after c.self.view_is c.in-Some.ensures c.index_mut-one.ensures.value (record { does = k.does; fails = k.fails_late; after = clocked_after one after below c.args.node c.clock_step.result below' (λ name mine. c.requires.stand.ipc c.args.dif one name at mine) st k.goes_on k.silent k.others k.settings k.laid k.does; rest = k.whole; leaves = k.leaves }))
+    inl (at_one _ c.args.dif c.args.self.now c.self.inside.items.items c.in-Some._dif.now _ one after c.self.view_is c.in-Some.ensures c.index_mut-one.ensures.value (record { does = k.does; fails = k.fails_late; stays = k.stays; after = clocked_after one after below c.args.node c.clock_step.result below' (λ name mine. c.requires.stand.ipc c.args.dif one name at mine) st k.goes_on k.silent k.others k.settings k.laid k.does; rest = k.whole; notes = record { failed = k.failed; fails = k.fails }; leaves = k.leaves }))
 
 pub returns-clause-fails : goal.returns-clause-fails
 returns-clause-fails g c = λ h. failed_at c.args.dif c.args.self.now c.self.inside.items.items c.in-Some._dif.now c.clock_step.new.self c.self.view_is c.in-Some.ensures (c.clock_step.ensures.fails.1 h)

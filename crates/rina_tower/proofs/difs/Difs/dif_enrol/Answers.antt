@@ -13,7 +13,7 @@ returns-clause-does g c =
     let after = c.enrol.new.self in
     let at = one_at c.args.dif c.args.self.now c.self.inside.items.items c.in-Some._dif.now _ one c.self.view_is c.in-Some.ensures c.index_mut-one.ensures.value in
     let st = c.requires.stand.stand c.args.dif one at in
-    inl (at_one _ c.args.dif c.args.self.now c.self.inside.items.items c.in-Some._dif.now _ one after c.self.view_is c.in-Some.ensures c.index_mut-one.ensures.value (record { does = k.does; failed = λ h. (let x = k.failed h in (x.0, x.1, ap g.F.Facility.seen x.2)); stands = (st.0, k.holds st.0 st.1); goes_on = k.goes_on; silent = k.silent; others = k.others; settings = k.settings; laid = k.laid; rest = k.whole; leaves = k.leaves }))
+    inl (at_one _ c.args.dif c.args.self.now c.self.inside.items.items c.in-Some._dif.now _ one after c.self.view_is c.in-Some.ensures c.index_mut-one.ensures.value (record { does = k.does; failed = λ h. (let x = k.failed h in (x.0, x.1, ap g.F.Facility.seen x.2)); notes = record { failed = λ h. (k.failed h).0; fails = k.fails }; stands = (st.0, k.holds st.0 st.1); goes_on = k.goes_on; silent = k.silent; others = k.others; settings = k.settings; laid = k.laid; rest = k.whole; leaves = k.leaves }))
 
 pub returns-clause-fails : goal.returns-clause-fails
 returns-clause-fails g c = λ h. failed_at c.args.dif c.args.self.now c.self.inside.items.items c.in-Some._dif.now c.enrol.new.self c.self.view_is c.in-Some.ensures (c.enrol.ensures.fails.1 h)

@@ -15,7 +15,7 @@ returns-clause-does g c =
     let below' = g.F.Facility.seen c.in_step.new.below in
     let at = one_at c.args.dif c.args.self.now c.self.inside.items.items c.in-Some._dif.now _ one c.self.view_is c.in-Some.ensures c.index_mut-one.ensures.value in
     let st = c.requires.stand.stand c.args.dif one at in
-    inl (at_one _ c.args.dif c.args.self.now c.self.inside.items.items c.in-Some._dif.now _ one after c.self.view_is c.in-Some.ensures c.index_mut-one.ensures.value (record { does = k.does; after = record { stands = taken_stands one after below c.args.node c.args.link c.in_step.result below' st k.does; uses = takes_use one after below c.args.node c.args.link c.in_step.result below' (λ name mine. c.requires.stand.ipc c.args.dif one name at mine) st k.does; goes_on = k.goes_on; silent = k.silent; waiting = takes_wait one after below c.args.node c.args.link c.in_step.result below' st k.does; others = k.others; settings = k.settings; laid = k.laid }; rest = k.whole; leaves = k.leaves }))
+    inl (at_one _ c.args.dif c.args.self.now c.self.inside.items.items c.in-Some._dif.now _ one after c.self.view_is c.in-Some.ensures c.index_mut-one.ensures.value (record { does = k.does; after = record { stands = taken_stands one after below c.args.node c.args.link c.in_step.result below' st k.does; uses = takes_use one after below c.args.node c.args.link c.in_step.result below' (λ name mine. c.requires.stand.ipc c.args.dif one name at mine) st k.does; goes_on = k.goes_on; silent = k.silent; waiting = takes_wait one after below c.args.node c.args.link c.in_step.result below' st k.does; others = k.others; settings = k.settings; laid = k.laid }; rest = k.whole; notes = record { failed = k.failed; fails = k.fails }; leaves = k.leaves }))
 
 pub returns-clause-fails : goal.returns-clause-fails
 returns-clause-fails g c = λ h. failed_at c.args.dif c.args.self.now c.self.inside.items.items c.in-Some._dif.now c.in_step.new.self c.self.view_is c.in-Some.ensures (c.in_step.ensures.fails.1 h)

@@ -1,7 +1,12 @@
-use Rattle.rina_tower.specs.Bystanders.{IsIpc}
 use Rattle.rina_tower.proofs.Alone.{all_alone}
 use Rattle.rina_tower.proofs.Serving.{beside_alone, rank_beside}
 use Rattle.rina_tower.proofs.Failed.{below_failed}
+use Rattle.std.proofs.Common.{◌≡◌, ◌∙◌, ◌||◌, Err}
+use Rattle.rina_tower.specs.declared.applications.AppError.TheVariants.{NoRank}
+use Rattle.rina_tower.specs.Applications.{Answers}
+use Rattle.rina_tower.specs.Bystanders.{IsIpc, is_ipc}
+use Rattle.rina_tower.specs.Calls.{AllocatesAtTop}
+use Rattle.rina_tower.proofs.Walks.{at_own}
 use Rattle.rina_tower.proofs.tower.Tower.+app_allocate_at_rank.Goals as goal
 
 pub returns-in-Wires-clause-beside : goal.returns-in-Wires-clause-beside
@@ -24,3 +29,8 @@ returns-in-Rank-clause-beside t c =
 
 pub returns-in-Rank-clause-fails : goal.returns-in-Rank-clause-fails
 returns-in-Rank-clause-fails t c = λ h. rw c.deref_mut.ensures.value (below_failed c.in-Rank.rank.value.difs c.app_allocate_at_rank.new.self (c.app_allocate_at_rank.ensures.fails h))
+
+pub returns-then-r-height-clause-does : goal.returns-then-r-height-clause-does
+returns-then-r-height-clause-does t c =
+    at_own c.args.r (λ u u'. Answers (is_ipc c.args.ask.now.app || is_ipc c.args.ask.now.to) (λ x. AllocatesAtTop c.args.ask.now x u u') (u' ≡ u) c.allocate_app_at_top.result) (c.allocate_app_at_top.result ≡ Err NoRank) c.args.self.now c.allocate_app_at_top.new.self
+    (c.if-r-height.true ∙ c.height.ensures) c.allocate_app_at_top.ensures.below c.allocate_app_at_top.ensures.does

@@ -1,0 +1,12 @@
+pub mod Agents
+pub mod Managements
+pub mod Keeping
+pub mod Calls
+pub mod Names
+pub mod Clocks
+pub mod Flows
+pub mod Comes
+pub mod Starts
+pub mod Finds
+pub mod Plain
+pub mod Past
