@@ -2,3 +2,4 @@ mod Edges
 mod Follow
 mod Reached
 mod Settle
+mod Sorted

@@ -30,6 +30,10 @@ abbrev pub followed_all : ℕ → Reach → List Edge → List (Option Reach) �
 followed_all node r [] reached = reached
 followed_all node r (e ∷ edges) reached = followed_all node r edges (if e.from == node then followed reached r e else reached)
 
+-- the node from which an edge leads
+abbrev pub from_of : Edge → ℕ
+from_of e = e.from
+
 abbrev pub is_settled : List Bool → ℕ → Bool
 is_settled settled node = slice_index_or settled node false
 

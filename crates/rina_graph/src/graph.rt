@@ -24,7 +24,7 @@ pub struct Graph {
 }
 
 impl Model for Graph {
-    ghost use Rattle.std.specs.Prelude.{ℕ, List, ◌≤◌, Contains};
+    ghost use Rattle.std.specs.Prelude.{ℕ, List, ◌≤◌};
     ghost use Rattle.rina_graph.specs.declared.graph.Edge.{Edge};
     ghost use Rattle.rina_graph.specs.Walks.{AreEdges};
 

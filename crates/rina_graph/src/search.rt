@@ -1,12 +1,13 @@
 //! The search for least walks: the nearest node is settled, one after the other (Dijkstra).
 ghost use Rattle.std.specs.Prelude.{◌≡◌, ℕ, false, ◌*◌, ◌<◌, ◌≤◌, length, IfSome, IfNone, IfOk};
-ghost use Rattle.rina_graph.specs.Search.{over, is_better, followed, followed_all, IsOpen, IsNearest, AllSettled, is_settled};
+ghost use Rattle.std.specs.List.Sorted.{IsNonDecreasingBy, IsPermutation};
+ghost use Rattle.rina_graph.specs.Search.{from_of, over, is_better, followed, followed_all, IsOpen, IsNearest, AllSettled, is_settled};
 ghost use Rattle.rina_graph.specs.Walks.{AreEdges, IsTree, reach_at};
 
 use crate::graph::{Edge, Graph};
 use crate::tree::{Reach, Tree};
 use rina_base::Memory;
-use std::alloc::Global;
+use std::alloc::{AllocError, Global};
 
 /// Whether one way to a node is better than another: it weighs less, or as much with a smaller first
 /// step.
@@ -45,16 +46,19 @@ fn follow(reached: &mut [Option<Reach>], reach: Reach, edge: Edge)
     reached[at] = Some(best);
 }
 
-/// Follows all edges from one node.
+/// Follows all edges from one node, where the edges are in the order of the nodes from which they lead.
 fn follow_all(edges: &[Edge], node: u32, reach: Reach, reached: &mut [Option<Reach>])
     requires inside { AreEdges (length reached.old) edges.now }
     requires small { reach.weight ≤ 65536 * 65535 }
+    requires rise { IsNonDecreasingBy from_of edges.now }
     ensures { reached.new ≡ followed_all node reach edges.now reached.old }
 {
-    for edge in edges {
-        if edge.from == node {
-            follow(reached, reach, *edge);
+    let first = edges.partition_point(|edge| edge.from < node);
+    for edge in &edges[first..] {
+        if edge.from != node {
+            break;
         }
+        follow(reached, reach, *edge);
     }
 }
 
@@ -80,6 +84,7 @@ fn nearest(reached: &[Option<Reach>], settled: &[bool]) -> Option<(usize, Reach)
 /// Settles the nearest node, until none is left that is reached and not settled.
 fn settle_all(edges: &[Edge], start: u32, reached: &mut [Option<Reach>], settled: &mut [bool])
     requires sound { AreEdges (length reached.old) edges.now }
+    requires rise { IsNonDecreasingBy from_of edges.now }
     requires few { length reached.old ≤ 65536 }
     requires inside { start < length reached.old }
     requires marked { length settled.old ≡ length reached.old }
@@ -97,15 +102,26 @@ fn settle_all(edges: &[Edge], start: u32, reached: &mut [Option<Reach>], settled
     }
 }
 
+/// The edges in the order of the nodes from which they lead.
+fn by_start(alloc: Global, edges: &[Edge]) -> Result<Vec<Edge>, AllocError>
+    ensures same { IfOk result (λ v. IsPermutation edges.now v.items) }
+    ensures rise { IfOk result (λ v. IsNonDecreasingBy from_of v.items) }
+{
+    let mut edges: Vec<Edge> = edges.iter().copied().collect(alloc)?;
+    edges.sort_unstable_by_key(|edge| edge.from);
+    Ok(edges)
+}
+
 /// The least walks from a node to all nodes.
 pub fn least_hops(alloc: Global, graph: &Graph, start: u32) -> Result<Tree, Memory>
     requires { start < graph.now.0 }
     ensures tree { IfOk result (IsTree graph.now.1 start) }
     ensures nodes { IfOk result (λ t. length t ≡ graph.now.0) }
 {
+    let edges = by_start(alloc, graph.edges())?;
     let nodes = graph.nodes() as usize;
     let mut reached = vec![in alloc; None; nodes]?;
     let mut settled = vec![in alloc; false; nodes]?;
-    settle_all(graph.edges(), start, &mut reached, &mut settled);
+    settle_all(&edges, start, &mut reached, &mut settled);
     Ok(Tree::from_reached(reached))
 }

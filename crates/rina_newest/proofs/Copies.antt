@@ -1,40 +1,16 @@
--- Copies of the two maps: items that are put in the order of their numbers, and places that are the same under each key.
-use Rattle.std.proofs.Common.{◌≡◌, ℕ, ◌<◌, List, [], ◌∷◌, ◌++◌, Option, Result, Ok, Err, refl, sym, ap, ◌∙◌, arith, append_assoc}
+-- Copies: places that are the same under each key, and the index of the copied items.
+use Rattle.std.proofs.Common.{◌≡◌, ℕ, List, [], ◌∷◌, Option, Result, Ok, Err, refl, sym, ap, ◌∙◌}
 use Rattle.std.specs.Prelude.{IfOk, MatchResult}
 use Rattle.std.specs.List.{AllZip}
 use Rattle.std.specs.Vec.{vec_len}
 use Rattle.std.specs.Global.{Vec}
-use Rattle.std.specs.Map.{lookup, keys_of}
+use Rattle.std.specs.Map.{lookup}
 use Rattle.std.specs.Ordering.{nat_cmp}
-use Rattle.std.specs.declared.cmp.Ordering.TheVariants.{Less}
 use Rattle.std.specs.Cmp.Lexicographic.{slice_cmp}
-use Rattle.std.specs.BTreeMap.{is_at, insert_entry}
-use Rattle.std.specs.List.Sorted.{IsStrictlySortedBy}
-use Rattle.std.proofs.lemmas.Map.Keys.{sorted_head, sorted_tail}
-use Rattle.std.proofs.lemmas.Grind.{common_steps}
-use Rattle.rina_newest.specs.declared.item.Item.{Item}
+use Rattle.std.specs.BTreeMap.{is_at}
 use Rattle.rina_newest.specs.Newest.{IsIndexed}
-use Rattle.rina_newest.proofs.Index.{Numbered, skips, Placed, Below, puts_last}
+use Rattle.rina_newest.proofs.Index.{Numbered, Placed}
 use Rattle.rina_newest.proofs.Places.{Places, place_in}
-
--- ---- items, put in the order of their numbers
-less_below : (s k : ℕ) → nat_cmp s k ≡ Less → s < k
-less_below s k h = grind (arith, common_steps, h)
-
-head_below : (s k : ℕ) (v : Item) (es rest : List Numbered) → IsStrictlySortedBy nat_cmp (s ∷ keys_of (es ++ (k, v) ∷ rest)) → s < k
-head_below s k v [] rest h = less_below s k (sorted_head nat_cmp s (k ∷ keys_of rest) h).0
-head_below s k v (e ∷ es) rest h = head_below s k v es rest (skips s e.0 (keys_of (es ++ (k, v) ∷ rest)) h)
-
-all_below : (k : ℕ) (v : Item) (es rest : List Numbered) → IsStrictlySortedBy nat_cmp (keys_of (es ++ (k, v) ∷ rest)) → Below k es
-all_below k v [] rest h = tt
-all_below k v (e ∷ es) rest h = (head_below e.0 k v es rest h, all_below k v es rest (sorted_tail nat_cmp e.0 (keys_of (es ++ (k, v) ∷ rest)) h))
-
--- a copy of the entry that follows those so far is put behind them
-pub puts_next : (all es left rest put : List Numbered) (k : ℕ) (v w : Item) → es ++ left ≡ all → left ≡ (k, w) ∷ rest → v ≡ w → put ≡ insert_entry nat_cmp es k v → IsStrictlySortedBy nat_cmp (keys_of all) → put ++ rest ≡ all
-puts_next all es left rest put k v w so_far next same is sorted =
-    let splits : es ++ (k, v) ∷ rest ≡ all = rw same (ap (λ (ys : List Numbered). es ++ ys) (sym next) ∙ so_far) in
-    let sorted' : IsStrictlySortedBy nat_cmp (keys_of (es ++ (k, v) ∷ rest)) = rw splits sorted in
-    ap (λ (ys : List Numbered). ys ++ rest) (is ∙ puts_last k v es (all_below k v es rest sorted')) ∙ append_assoc es ((k, v) ∷ []) rest ∙ splits
 
 -- ---- places, copied key by key
 same_bytes : (xs ys : List ℕ) → AllZip (λ x y. y ≡ x) xs ys → ys ≡ xs
@@ -67,4 +43,5 @@ indexed_again place place' es es' next same is ix = rw is record {
   placed = all_placed place place' same es ix.placed;
   found = λ key s here. ix.found key s (sym (same key) ∙ here);
   below = ix.below;
+  rising = ix.rising;
 }

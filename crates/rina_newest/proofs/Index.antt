@@ -1,11 +1,11 @@
 -- The index of the items: what it finds, and what stays of it when an item is put or taken out.
-use Rattle.std.proofs.Common.{◌≡◌, ℕ, ◌<◌, Bool, true, false, List, [], ◌∷◌, ◌++◌, Option, Some, None, MatchOption, refl, sym, ap, ◌∙◌, subst, arith}
+use Rattle.std.proofs.Common.{◌≡◌, ℕ, ◌<◌, Bool, true, false, List, [], ◌∷◌, Option, Some, None, MatchOption, refl, sym, ap, ◌∙◌, subst, arith}
 use Rattle.std.specs.Str.{bytes_eq}
 use Rattle.std.specs.List.{AllByRecursion}
 use Rattle.std.specs.Map.{lookup, remove_entry, values_of, keys_of}
 use Rattle.std.specs.Ordering.{nat_cmp}
-use Rattle.std.specs.declared.cmp.Ordering.TheVariants.{Less, Greater}
-use Rattle.std.specs.BTreeMap.{is_at, insert_entry}
+use Rattle.std.specs.declared.cmp.Ordering.TheVariants.{Less}
+use Rattle.std.specs.BTreeMap.{is_at}
 use Rattle.std.specs.List.Sorted.{IsStrictlySortedBy}
 use Rattle.std.proofs.lemmas.Bool.{both_ways}
 use Rattle.std.proofs.lemmas.Slice.Eq.{bytes_eq-Decides}
@@ -38,9 +38,6 @@ key_itself p q = (bytes_eq-Decides p q).1
 
 pub Some_same : {X : Type 0} (x y : X) → Some x ≡ Some y → x ≡ y
 Some_same x y h = grind (arith, h)
-
-nat_cmp_above : (m n : ℕ) → n < m → nat_cmp m n ≡ Greater
-nat_cmp_above m n h = grind (arith, common_steps, h)
 
 -- a list in order stays so without its second
 pub skips : (s k : ℕ) (ks : List ℕ) → IsStrictlySortedBy nat_cmp (s ∷ k ∷ ks) → IsStrictlySortedBy nat_cmp (s ∷ ks)
@@ -104,19 +101,6 @@ module _ (place : List ℕ → Option ℕ) where
 abbrev pub Below : ℕ → List Numbered → Type 0
 Below next es = AllByRecursion (λ (e : Numbered). e.0 < next) es
 
--- a new number is put at the end
-pub puts_last : (next : ℕ) (item : Item) (es : List Numbered) → Below next es → insert_entry nat_cmp es next item ≡ es ++ (next, item) ∷ []
-puts_last next item [] h = refl
-puts_last next item (e ∷ es) h =
-    let above : nat_cmp next e.0 ≡ Greater = nat_cmp_above next e.0 h.0 in
-    rw above (ap (λ ys. e ∷ ys) (puts_last next item es h.1))
-
--- and taken out again
-pub takes_last : (next : ℕ) (item : Item) (es : List Numbered) → Below next es → remove_entry (at next) (es ++ (next, item) ∷ []) ≡ es
-takes_last next item [] h = rw (at_itself next next refl) refl
-takes_last next item (e ∷ es) h =
-    split (at next e.0) (λ yes. absurd (omega (arith, at_same next e.0 yes, h.0))) (λ no. rw no (ap (λ ys. e ∷ ys) (takes_last next item es h.1)))
-
 finds_by : (place : List ℕ → Option ℕ) (es : List Numbered) (q : List ℕ) (s : ℕ) → Placed place es → place q ≡ Some s → (found : Option Item) → lookup (at s) es ≡ found → MatchOption found ⊥ (λ item. has_key q item ≡ true) → lookup (at s) es ≡ kept_at (values_of es) q
 finds_by place es q s placed here None is none = absurd none
 finds_by place es q s placed here (Some item) is has = is ∙ sym (finds_some place q s item es placed here is has)
@@ -124,3 +108,13 @@ finds_by place es q s placed here (Some item) is has = is ∙ sym (finds_some pl
 -- what the entries have at a key's place is the kept item
 pub place_finds : (place : List ℕ → Option ℕ) (es : List Numbered) (next : ℕ) → IsIndexed place es next → (q : List ℕ) (s : ℕ) → place q ≡ Some s → lookup (at s) es ≡ kept_at (values_of es) q
 place_finds place es next ix q s here = finds_by place es q s (ix.placed) here (lookup (at s) es) refl (ix.found q s here)
+
+-- no items
+pub empty_index : (place : List ℕ → Option ℕ) (es : List Numbered) (next : ℕ) → ((q : List ℕ) → place q ≡ None) → es ≡ [] → IsIndexed place es next
+unfolding IsStrictlySortedBy
+empty_index place es next none is = rw is record {
+  placed = tt;
+  found = λ q s here. absurd (grind (arith, none q, here));
+  below = tt;
+  rising = tt;
+}

@@ -1,5 +1,6 @@
 mod Copies
 mod Index
+mod Numbers
 mod Places
 mod Put
 mod Takes

@@ -38,6 +38,26 @@ all_removed : (P : Numbered → Type 0) (test : ℕ → Bool) (es : List Numbere
 all_removed P test [] h = tt
 all_removed P test (e ∷ es) h = split (test e.0) (λ yes. rw yes h.1) (λ no. rw no (h.0, all_removed P test es h.1))
 
+all_less_push : (s next : ℕ) (item : Item) (es : List Numbered) → s < next → AllByRecursion (λ y. nat_cmp s y ≡ Less) (keys_of es) → AllByRecursion (λ y. nat_cmp s y ≡ Less) (keys_of (es ++ (next, item) ∷ []))
+all_less_push s next item [] below h = (grind (arith, common_steps, below), tt)
+all_less_push s next item (e ∷ es) below h = (h.0, all_less_push s next item es below h.1)
+
+-- the numbers rise with a greater one at the end
+pub rising_push : (next : ℕ) (item : Item) (es : List Numbered) → Below next es → IsStrictlySortedBy nat_cmp (keys_of es) → IsStrictlySortedBy nat_cmp (keys_of (es ++ (next, item) ∷ []))
+unfolding IsStrictlySortedBy
+rising_push next item [] below h = (tt, tt)
+rising_push next item (e ∷ es) below h = (all_less_push e.0 next item es below.0 h.0, rising_push next item es below.1 h.1)
+
+all_less_removed : (s : ℕ) (test : ℕ → Bool) (es : List Numbered) → AllByRecursion (λ y. nat_cmp s y ≡ Less) (keys_of es) → AllByRecursion (λ y. nat_cmp s y ≡ Less) (keys_of (remove_entry test es))
+all_less_removed s test [] h = tt
+all_less_removed s test (e ∷ es) h = split (test e.0) (λ yes. rw yes h.1) (λ no. rw no (h.0, all_less_removed s test es h.1))
+
+-- and without one of them
+rising_removed : (test : ℕ → Bool) (es : List Numbered) → IsStrictlySortedBy nat_cmp (keys_of es) → IsStrictlySortedBy nat_cmp (keys_of (remove_entry test es))
+unfolding IsStrictlySortedBy
+rising_removed test [] h = h
+rising_removed test (e ∷ es) h = split (test e.0) (λ yes. rw yes h.1) (λ no. rw no (all_less_removed e.0 test es h.0, rising_removed test es h.1))
+
 lookup_front : (test : ℕ → Bool) (es ys : List Numbered) (item : Item) → lookup test es ≡ Some item → lookup test (es ++ ys) ≡ Some item
 lookup_front test [] ys item h = absurd (grind (arith, h))
 lookup_front test (e ∷ es) ys item h = split (test e.0) (λ yes. rw yes (grind (arith, h, yes))) (λ no. rw no (lookup_front test es ys item (grind (arith, h, no))))
@@ -124,21 +144,21 @@ module _ (place place' : List ℕ → Option ℕ) (key : List ℕ) (next : ℕ) 
       later q t next item kept (lookup (at t) es) (ix.found q t before) (λ old is has. keeps q t old no before is has))
 
   -- the index with the item at the end of entries that lack its key
-  put_last : (es kept : List Numbered) (item : Item) → item.key ≡ key → IsIndexed place es next → Placed place kept → Below next kept → Lacks key kept → Keeps place key es kept
+  put_last : (es kept : List Numbered) (item : Item) → item.key ≡ key → IsIndexed place es next → Placed place kept → Below next kept → IsStrictlySortedBy nat_cmp (keys_of kept) → Lacks key kept → Keeps place key es kept
       → IsIndexed place' (kept ++ (next, item) ∷ []) (next + 1)
-  put_last es kept item key_is ix placed below lacks keeps =
+  put_last es kept item key_is ix placed below rising lacks keeps =
       let is_placed : Placed place' (kept ++ (next, item) ∷ []) = all_push (λ (e : Numbered). place' e.1.key ≡ Some e.0) kept (next, item) (placed_moved kept placed lacks) (moves item.key ∙ rw (key_itself key item.key (sym key_is)) refl) in
       let is_below : Below (next + 1) (kept ++ (next, item) ∷ []) = all_push (λ (e : Numbered). e.0 < next + 1) kept (next, item) (all_more (λ (e : Numbered). e.0 < next) (λ (e : Numbered). e.0 < next + 1) (λ e h. omega (arith, h)) kept below) (omega arith) in
-      record { placed = is_placed; found = found_last es kept item key_is ix below keeps; below = is_below }
+      record { placed = is_placed; found = found_last es kept item key_is ix below keeps; below = is_below; rising = rising_push next item kept below rising }
 
   -- a key that has no item yet
   pub put_new : (es : List Numbered) (item : Item) → item.key ≡ key → IsIndexed place es next → place key ≡ None → IsIndexed place' (es ++ (next, item) ∷ []) (next + 1)
-  put_new es item key_is ix none = put_last es es item key_is ix ix.placed ix.below (lacks_none place key es ix.placed none) (λ q t old no before is has. is)
+  put_new es item key_is ix none = put_last es es item key_is ix ix.placed ix.below ix.rising (lacks_none place key es ix.placed none) (λ q t old no before is has. is)
 
   -- a key that has an item: its entry is taken out
-  pub put_again : (es : List Numbered) (item : Item) (s : ℕ) → item.key ≡ key → IsIndexed place es next → place key ≡ Some s → IsStrictlySortedBy nat_cmp (keys_of es) → IsIndexed place' (remove_entry (at s) es ++ (next, item) ∷ []) (next + 1)
-  put_again es item s key_is ix here sorted =
-      put_last es (remove_entry (at s) es) item key_is ix (all_removed (λ (e : Numbered). place e.1.key ≡ Some e.0) (at s) es ix.placed) (all_removed (λ (e : Numbered). e.0 < next) (at s) es ix.below) (lacks_removed place key s es ix.placed here sorted)
+  pub put_again : (es : List Numbered) (item : Item) (s : ℕ) → item.key ≡ key → IsIndexed place es next → place key ≡ Some s → IsIndexed place' (remove_entry (at s) es ++ (next, item) ∷ []) (next + 1)
+  put_again es item s key_is ix here =
+      put_last es (remove_entry (at s) es) item key_is ix (all_removed (λ (e : Numbered). place e.1.key ≡ Some e.0) (at s) es ix.placed) (all_removed (λ (e : Numbered). e.0 < next) (at s) es ix.below) (rising_removed (at s) es ix.rising) (lacks_removed place key s es ix.placed here ix.rising)
       (λ q t old no before is has.
       let apart : s ≡ t → ⊥ = λ same.
       let has' : has_key key old ≡ true = has_at key s es old (ix.found key s here) (rw same is) in
@@ -150,10 +170,10 @@ pub values_new : (place : List ℕ → Option ℕ) (es : List Numbered) (next : 
 values_new place es next key item placed none = values_push es next item ∙ ap (λ xs. xs ++ item ∷ []) (sym (removes_none place key es placed none))
 
 -- and where it has one
-pub values_again : (place : List ℕ → Option ℕ) (es : List Numbered) (next : ℕ) (key : List ℕ) (item : Item) (s : ℕ) → IsIndexed place es next → place key ≡ Some s → IsStrictlySortedBy nat_cmp (keys_of es)
+pub values_again : (place : List ℕ → Option ℕ) (es : List Numbered) (next : ℕ) (key : List ℕ) (item : Item) (s : ℕ) → IsIndexed place es next → place key ≡ Some s
     → values_of (remove_entry (at s) es ++ (next, item) ∷ []) ≡ without key (values_of es) ++ item ∷ []
-values_again place es next key item s ix here sorted =
-    let gone : values_of (remove_entry (at s) es) ≡ without key (values_of es) = removes_found place es key s (lookup (at s) es) ix.placed here refl (ix.found key s here) sorted in
+values_again place es next key item s ix here =
+    let gone : values_of (remove_entry (at s) es) ≡ without key (values_of es) = removes_found place es key s (lookup (at s) es) ix.placed here refl (ix.found key s here) ix.rising in
     values_push (remove_entry (at s) es) next item ∙ ap (λ xs. xs ++ item ∷ []) gone
 
 -- taking out the entry at a key's place, before or after one was put at the end

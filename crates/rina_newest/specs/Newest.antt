@@ -1,8 +1,9 @@
 -- The newest item of each key, in the order of their last changes.
-use Rattle.std.specs.Prelude.{◌≡◌, ℕ, ◌<◌, Bool, true, false, nat_eq, not, ◌&&◌, ◌||◌, ◌==◌, nat_lt, List, [], ◌∷◌, ◌++◌, Option, Some, None, option_and_then, filter, find, Contains, MatchOption, if◌then◌else◌}
+use Rattle.std.specs.Prelude.{◌≡◌, ℕ, ◌<◌, Bool, true, false, nat_eq, not, ◌&&◌, ◌||◌, ◌==◌, nat_lt, List, [], ◌∷◌, ◌++◌, length, Option, Some, None, option_and_then, filter, find, Contains, MatchOption, if◌then◌else◌}
 use Rattle.std.specs.Str.{bytes_eq}
-use Rattle.std.specs.List.{AllByRecursion, starts_with}
-use Rattle.std.specs.Map.{lookup}
+use Rattle.std.specs.List.{AllByRecursion, HoldsAt, starts_with}
+use Rattle.std.specs.List.Sorted.{IsStrictlySortedBy}
+use Rattle.std.specs.Map.{lookup, keys_of}
 use Rattle.std.specs.Ordering.{nat_cmp}
 use Rattle.std.specs.BTreeMap.{is_at}
 use Rattle.rina_newest.specs.declared.item.Version.{Version}
@@ -59,8 +60,13 @@ pub record IsNewest (items : List Item) (key : List ℕ) (item : Item) : Type 0 
 abbrev pub AreTold : List Item → Type 0
 AreTold items = (x y : Item) → Contains items x → Contains items y → x.key ≡ y.key → x.version ≡ y.version → x ≡ y
 
--- an index of the items by their keys: under each key the number of its change, and under each number, all of them below the next one, the item
+-- the entry at an index has the number
+abbrev pub IsNumbered : List (ℕ × Item) → ℕ → ℕ → Type 0
+IsNumbered entries at index = (index < length entries) × HoldsAt (λ e. e.0 ≡ at) entries index
+
+-- an index of the items by their keys: under each key the number of its change, and under each number, which rise and are all of them below the next one, the item
 pub record IsIndexed (place : List ℕ → Option ℕ) (entries : List (ℕ × Item)) (next : ℕ) : Type 0 where
   pub placed : AllByRecursion (λ (e : ℕ × Item). place e.1.key ≡ Some e.0) entries
   pub found : (key : List ℕ) (at : ℕ) → place key ≡ Some at → MatchOption (lookup (is_at (nat_cmp at)) entries) ⊥ (λ item. has_key key item ≡ true)
   pub below : AllByRecursion (λ (e : ℕ × Item). e.0 < next) entries
+  pub rising : IsStrictlySortedBy nat_cmp (keys_of entries)

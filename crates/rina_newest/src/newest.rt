@@ -1,9 +1,11 @@
 //! The newest items.
-ghost use Rattle.std.specs.Prelude.{ℕ, List, ◌≡◌, ◌+◌, [], ◌∷◌, ◌++◌, IfOk, OnOk, OnErr, option_copied, drop, map};
-ghost use Rattle.std.specs.BTreeMap.{get_by, values};
+ghost use Rattle.std.specs.Prelude.{ℕ, List, ◌≡◌, ◌+◌, [], ◌∷◌, ◌++◌, None, MatchOption, IfOk, OnOk, OnErr, option_copied, drop, map};
+ghost use Rattle.std.specs.BTreeMap.{get_by, is_at};
+ghost use Rattle.std.specs.List.Sorted.{IsStrictlySortedBy};
+ghost use Rattle.std.specs.Map.{keys_of, values_of, lookup, remove_entry};
 ghost use Rattle.std.specs.Ordering.{nat_cmp};
 ghost use Rattle.std.specs.Cmp.Lexicographic.{slice_cmp};
-ghost use Rattle.rina_newest.specs.Newest.{IsIndexed, kept_at, value_at, is_newer, without, taken, item_of, items_under};
+ghost use Rattle.rina_newest.specs.Newest.{IsIndexed, IsNumbered, kept_at, value_at, is_newer, without, taken, item_of, items_under};
 
 use crate::item::{Item, Version};
 use rina_base::{Memory, Seq};
@@ -18,15 +20,16 @@ use std::marker::Model;
 pub struct Newest {
     /// The number of each key's last change.
     places: BTreeMap<Vec<u8>, u64>,
-    /// The item of each last change, by its number.
-    items: BTreeMap<u64, Item>,
+    /// The number and the item of each last change, in the rising order of the numbers.
+    items: Vec<(u64, Item)>,
     /// The number of the next change.
     next: u64,
 }
 
 impl Model for Newest {
     ghost use Rattle.std.specs.Prelude.{List};
-    ghost use Rattle.std.specs.BTreeMap.{get_by, values};
+    ghost use Rattle.std.specs.BTreeMap.{get_by};
+    ghost use Rattle.std.specs.Map.{values_of};
     ghost use Rattle.std.specs.Ordering.{nat_cmp};
     ghost use Rattle.std.specs.Cmp.Lexicographic.{slice_cmp};
     ghost use Rattle.rina_newest.specs.declared.item.Item.{Item};
@@ -34,37 +37,55 @@ impl Model for Newest {
 
     ghost Value = { List Item };
 
-    ghost view = { λ n. values n.items };
+    ghost view = { λ n. values_of n.items.items };
 
-    ghost invariant = { λ n. IsIndexed (λ key. get_by (λ k. slice_cmp nat_cmp key k.items) n.places) n.items.entries n.next };
+    ghost invariant = { λ n. IsIndexed (λ key. get_by (λ k. slice_cmp nat_cmp key k.items) n.places) n.items.items n.next };
+}
+
+/// The index of the item of change `at`, among items in the rising order of their numbers.
+fn index_of(items: &[(u64, Item)], at: u64) -> Option<usize>
+    requires { IsStrictlySortedBy nat_cmp (keys_of items.now) }
+    ensures { MatchOption result (lookup (is_at (nat_cmp at)) items.now ≡ None) (IsNumbered items.now at) }
+{
+    items.binary_search_by_key(&at, |&(number, _)| number).ok()
+}
+
+/// Takes out the item of change `at`, if it is there.
+fn take_out(items: &mut Vec<(u64, Item)>, at: u64)
+    requires { IsStrictlySortedBy nat_cmp (keys_of items.old.items) }
+    ensures { items.new.items ≡ remove_entry (is_at (nat_cmp at)) items.old.items }
+{
+    if let Some(index) = index_of(items, at) {
+        let _ = items.remove(index);
+    }
 }
 
 /// Puts an item in the place of the one that has its key, as change `at`.
 fn replace(
     places: &mut BTreeMap<Vec<u8>, u64>,
-    items: &mut BTreeMap<u64, Item>,
+    items: &mut Vec<(u64, Item)>,
     at: u64,
     key: Vec<u8>,
     item: Item,
 ) -> Result<(), Memory>
-    requires indexed { IsIndexed (λ q. get_by (λ k. slice_cmp nat_cmp q k.items) places.old) items.old.entries at }
+    requires indexed { IsIndexed (λ q. get_by (λ k. slice_cmp nat_cmp q k.items) places.old) items.old.items at }
     requires same { item.key ≡ key.items }
-    ensures index { OnOk result (IsIndexed (λ q. get_by (λ k. slice_cmp nat_cmp q k.items) places.new) items.new.entries (at + 1)) }
-    ensures ok { OnOk result (values items.new ≡ without item.key (values items.old) ++ item ∷ []) }
-    ensures stays { OnErr result (IsIndexed (λ q. get_by (λ k. slice_cmp nat_cmp q k.items) places.new) items.new.entries at) }
-    ensures err { OnErr result (items.new.entries ≡ items.old.entries) }
+    ensures index { OnOk result (IsIndexed (λ q. get_by (λ k. slice_cmp nat_cmp q k.items) places.new) items.new.items (at + 1)) }
+    ensures ok { OnOk result (values_of items.new.items ≡ without item.key (values_of items.old.items) ++ item ∷ []) }
+    ensures stays { OnErr result (IsIndexed (λ q. get_by (λ k. slice_cmp nat_cmp q k.items) places.new) items.new.items at) }
+    ensures err { OnErr result (items.new.items ≡ items.old.items) }
 {
-    let Ok(_) = items.insert(at, item) else {
+    let Ok(_) = items.push((at, item)) else {
         return Err(Memory);
     };
     let Ok(replaced) = places.insert(key, at) else {
-        let _ = items.remove(&at);
+        let _ = items.pop();
         return Err(Memory);
     };
     let Some(before) = replaced else {
         return Ok(());
     };
-    let _ = items.remove(&before);
+    take_out(items, before);
     Ok(())
 }
 
@@ -75,14 +96,14 @@ fn places_copy(places: &BTreeMap<Vec<u8>, u64>) -> Result<BTreeMap<Vec<u8>, u64>
     places.clone()
 }
 
-/// A copy of items under their numbers.
-fn items_copy(alloc: Global, items: &BTreeMap<u64, Item>) -> Result<BTreeMap<u64, Item>, Memory>
-    ensures { IfOk result (λ copied. copied.entries ≡ items.now.entries) }
+/// A copy of items with their numbers.
+fn items_copy(alloc: Global, items: &[(u64, Item)]) -> Result<Vec<(u64, Item)>, Memory>
+    ensures { IfOk result (λ copied. copied.items ≡ items.now) }
 {
-    let mut copied = BTreeMap::new(alloc);
-    for (at, item) in items.iter() {
+    let mut copied = Vec::with_capacity(alloc, items.len())?;
+    for (at, item) in items {
         let item = item.copy(alloc)?;
-        let Ok(_) = copied.insert(*at, item) else {
+        let Ok(_) = copied.push((*at, item)) else {
             return Err(Memory);
         };
     }
@@ -96,7 +117,7 @@ impl Newest {
     {
         Newest {
             places: BTreeMap::new(alloc),
-            items: BTreeMap::new(alloc),
+            items: Vec::new(alloc),
             next: 0,
         }
     }
@@ -119,7 +140,8 @@ impl Newest {
         ensures { option_copied result ≡ kept_at self.now key.now }
     {
         let at = self.places.get(key)?;
-        self.items.get(at)
+        let index = index_of(&self.items, *at)?;
+        Some(&self.items[index].1)
     }
 
     /// The value that is kept under a key. None where nothing is, or a deletion. Takes no memory.
@@ -178,12 +200,13 @@ impl Newest {
 
     /// Copies of the kept items in the order of their last changes, from place `place` on, counted
     /// from 0.
+    #[tactic(auto, using(crate::proofs::Numbers::values_more, crate::proofs::Numbers::values_taken))]
     pub fn since(&self, alloc: Global, place: u32) -> Result<Seq<Item>, Memory>
         ensures { IfOk result (λ items. items ≡ drop place self.now) }
     {
         let mut items = Seq::new(alloc);
         let mut before = place;
-        for item in self.items.values() {
+        for (_, item) in &self.items {
             if before > 0 {
                 before -= 1;
             } else {
@@ -194,11 +217,12 @@ impl Newest {
     }
 
     /// The kept items whose keys begin with a text, in the order of their last changes.
+    #[tactic(auto, using(crate::proofs::Numbers::values_more, crate::proofs::Numbers::values_taken))]
     pub fn under(&self, alloc: Global, text: &[u8]) -> Result<Vec<&Item>, Memory>
         ensures { IfOk result (λ found. map (λ item. item.now) found.items ≡ items_under text.now self.now) }
     {
         let mut found = Vec::new(alloc);
-        for item in self.items.values() {
+        for (_, item) in &self.items {
             if item.key.as_slice().starts_with(text) {
                 if found.push(item).is_err() {
                     return Err(Memory);

@@ -1,3 +1,5 @@
+pub mod Keys
 pub mod Nodes
 pub mod Routes
+pub mod Weights
 pub mod Written

@@ -1,8 +1,11 @@
 //! The edges that link states claim. The key of a link state is `/link/` and an address, and its value
 //! names the neighbours there as `ADDRESS:WEIGHT`, joined by commas.
-ghost use Rattle.std.specs.Prelude.{◌≡◌, ◌++◌, ◌==◌, ◌<◌, filter, length, position, IfOk, IfSome};
+ghost use Rattle.std.specs.Prelude.{◌≡◌, ◌==◌, ◌<◌, List, filter, length, position, IfOk, IfSome};
 ghost use Rattle.std.specs.List.{flat_map};
-ghost use Rattle.rina_route.specs.Routes.{weight_at, edge_at, claim_at, claims_in, claims_of, has_link, is_up, same_edge, is_claimed, counts, counted};
+ghost use Rattle.rina_route.specs.Routes.{weight_at, edge_at, claim_at, claims_in, claims_of, has_link, is_up, is_claimed, counts, counted};
+ghost use Rattle.rina_route.specs.Keys.{key_of, ends_of, AreKeys, AreEnds};
+ghost use Rattle.rina_graph.specs.declared.graph.Edge.{Edge};
+ghost use Rattle.rina_route.specs.declared.link.Link.{Link};
 
 use crate::link::Link;
 use rina_base::{Addr, Memory, read_number};
@@ -86,52 +89,87 @@ pub(crate) fn claimed(alloc: Global, states: &Newest) -> Result<Vec<Edge>, Memor
     Ok(edges)
 }
 
-/// Whether one of the own links leads to a neighbour at a weight.
-fn has_link(links: &[Link], peer: Addr, weight: u16) -> bool
-    ensures { result ≡ has_link links.now peer weight }
+/// A neighbour and a weight, at which own links lead to it.
+type Ends = (Addr, u16);
+
+/// The neighbour of a link and its weight.
+fn ends_of(link: Link) -> Ends
+    ensures { result ≡ ends_of link }
 {
-    links.iter().any(|link| link.leads_to(peer, weight))
+    (link.peer, link.weight)
 }
 
-/// Whether an edge is up: at the own address only those are that are over an own link.
+/// The neighbours and weights of links, in rising order.
+fn all_ends(alloc: Global, links: &[Link]) -> Result<Vec<Ends>, AllocError>
+    ensures { IfOk result (λ v. AreEnds links.now v.items) }
+{
+    let mut ends: Vec<Ends> = links.iter().map(|link| ends_of(*link)).collect(alloc)?;
+    ends.sort_unstable();
+    Ok(ends)
+}
+
+/// Whether one of the own links, which have these neighbours and weights, leads to a neighbour at a
+/// weight.
+fn has_link(ends: &[Ends], peer: Addr, weight: u16) -> bool
+    ensures { (links : List Link) → AreEnds links ends.now → result ≡ has_link links peer weight }
+{
+    let wanted = (peer, weight);
+    ends.binary_search(&wanted).is_ok()
+}
+
+/// Whether an edge is up: at the own address only those edges are that are over an own link.
 #[tactic(auto, unfolding(crate::specs::Routes::is_up))]
-fn is_up(own: Addr, links: &[Link], edge: Edge) -> bool
-    ensures { result ≡ is_up own links.now edge }
+fn is_up(own: Addr, ends: &[Ends], edge: Edge) -> bool
+    ensures { (links : List Link) → AreEnds links ends.now → result ≡ is_up own links edge }
 {
     if edge.from == own {
-        has_link(links, edge.to, edge.weight)
+        has_link(ends, edge.to, edge.weight)
     } else if edge.to == own {
-        has_link(links, edge.from, edge.weight)
+        has_link(ends, edge.from, edge.weight)
     } else {
         true
     }
 }
 
-/// Whether two edges are the same.
-fn same_edge(edge: Edge, other: Edge) -> bool
-    ensures { result ≡ same_edge edge other }
+/// What tells an edge from another: its ends and its weight.
+type Key = (Addr, Addr, u16);
+
+/// The key of an edge.
+fn key_of(edge: Edge) -> Key
+    ensures { result ≡ key_of edge }
 {
-    other.from == edge.from && other.to == edge.to && other.weight == edge.weight
+    (edge.from, edge.to, edge.weight)
 }
 
-/// Whether an edge is among those that are claimed.
-fn is_claimed(claimed: &[Edge], edge: Edge) -> bool
-    ensures { result ≡ is_claimed claimed.now edge }
+/// The keys of edges, in rising order.
+fn keys_of(alloc: Global, edges: &[Edge]) -> Result<Vec<Key>, AllocError>
+    ensures { IfOk result (λ v. AreKeys edges.now v.items) }
 {
-    claimed.iter().any(|other| same_edge(edge, *other))
+    let mut keys: Vec<Key> = edges.iter().map(|edge| key_of(*edge)).collect(alloc)?;
+    keys.sort_unstable();
+    Ok(keys)
 }
 
-/// Whether an edge that one end claims counts: the other end claims it too, and it is up.
+/// Whether an edge is among those that have the keys.
+fn is_claimed(keys: &[Key], edge: Edge) -> bool
+    ensures { (claimed : List Edge) → AreKeys claimed keys.now → result ≡ is_claimed claimed edge }
+{
+    let key = key_of(edge);
+    keys.binary_search(&key).is_ok()
+}
+
+/// Whether an edge that one end claims counts: the other end claims it too, and it is up. The keys are
+/// those of all edges that are claimed.
 #[tactic(auto, unfolding(crate::specs::Routes::counts))]
-fn counts(own: Addr, links: &[Link], claimed: &[Edge], edge: Edge) -> bool
-    ensures { result ≡ counts own links.now claimed.now edge }
+fn counts(own: Addr, ends: &[Ends], keys: &[Key], edge: Edge) -> bool
+    ensures { (links : List Link) (claimed : List Edge) → AreEnds links ends.now → AreKeys claimed keys.now → result ≡ counts own links claimed edge }
 {
     let turned = Edge {
         from: edge.to,
         to: edge.from,
         weight: edge.weight,
     };
-    is_claimed(claimed, turned) && is_up(own, links, edge)
+    is_claimed(keys, turned) && is_up(own, ends, edge)
 }
 
 /// The edges that are claimed and count.
@@ -143,9 +181,11 @@ pub(crate) fn counted(
 ) -> Result<Vec<Edge>, AllocError>
     ensures { IfOk result (λ v. v.items ≡ counted own links.now claimed.now) }
 {
+    let ends = all_ends(alloc, links)?;
+    let keys = keys_of(alloc, claimed)?;
     claimed
         .iter()
         .copied()
-        .filter(|edge| counts(own, links, claimed, *edge))
+        .filter(|edge| counts(own, &ends, &keys, *edge))
         .collect(alloc)
 }

@@ -1,15 +1,17 @@
 //! The link by which a PDU leaves for an address.
-ghost use Rattle.std.specs.Prelude.{◌≡◌, ◌<◌, min, length, map, slice_index, MatchOption};
-ghost use Rattle.std.specs.List.Sorted.{IsStrictlyIncreasing};
+ghost use Rattle.std.specs.Prelude.{◌≡◌, ◌<◌, ℕ, List, Some, min, length, map, slice_index, IfOk, MatchOption};
 ghost use Rattle.rina_graph.specs.declared.graph.Edge.{Edge};
-ghost use Rattle.rina_graph.specs.Walks.{IsTree};
+ghost use Rattle.rina_graph.specs.Walks.{AreEdges, first_at};
 ghost use Rattle.rina_route.specs.declared.link.Link.{Link};
 ghost use Rattle.rina_route.specs.Nodes.{lifted};
-ghost use Rattle.rina_route.specs.Routes.{leads_to, joins, HaveLinks, IsLeastIfAny, IsHop};
+ghost use Rattle.rina_route.specs.Routes.{IsHop};
+ghost use Rattle.rina_route.specs.Weights.{AreWeights, AreLeastLinks, IsSearched};
 
 use crate::link::Link;
-use rina_base::Addr;
-use rina_graph::{Edge, Graph, Tree};
+use rina_base::{Addr, Memory};
+use rina_graph::{Edge, Tree};
+use std::alloc::{AllocError, Global};
+use std::collections::BTreeMap;
 
 /// The lesser of a number and the least so far, if there is one.
 fn lesser(best: Option<u16>, number: u16) -> u16
@@ -21,61 +23,62 @@ fn lesser(best: Option<u16>, number: u16) -> u16
     }
 }
 
-/// Whether an edge leads from one node to another.
-fn joins(edge: Edge, from: u32, to: u32) -> bool
-    ensures { result ≡ joins from to edge }
-{
-    edge.from == from && edge.to == to
-}
-
-/// The least weight of an edge from one node to another.
-fn least_weight(edges: &[Edge], from: u32, to: u32) -> Option<u16>
-    ensures { IsLeastIfAny (joins from to) (λ (e : Edge). e.weight) edges.now result }
-{
-    let mut best = None;
-    for edge in edges {
-        if joins(*edge, from, to) {
-            best = Some(lesser(best, edge.weight));
-        }
-    }
-    best
-}
-
-/// The least link that leads to a neighbour at a weight.
-fn least_link(links: &[Link], peer: Addr, weight: u16) -> Option<u16>
-    ensures { IsLeastIfAny (leads_to peer weight) (λ (l : Link). l.number) links.now result }
-{
-    let mut best = None;
-    for link in links {
-        if link.leads_to(peer, weight) {
-            best = Some(lesser(best, link.number));
-        }
-    }
-    best
-}
-
-/// The link by which a PDU leaves the node of a number for another.
-pub(crate) fn hop(
-    links: &[Link],
-    nodes: &[Addr],
-    graph: &Graph,
-    tree: &Tree,
+/// The least weights of the edges from one node to each of the nodes.
+pub(crate) fn least_weights(
+    alloc: Global,
+    nodes: usize,
+    edges: &[Edge],
     start: u32,
+) -> Result<Vec<Option<u16>>, AllocError>
+    requires { AreEdges nodes edges.now }
+    ensures { IfOk result (λ v. AreWeights start edges.now nodes v.items) }
+{
+    let mut weights = vec![in alloc; None; nodes]?;
+    for edge in edges {
+        if edge.from == start {
+            let to = edge.to as usize;
+            weights[to] = Some(lesser(weights[to], edge.weight));
+        }
+    }
+    Ok(weights)
+}
+
+/// For each neighbour and weight the least link that leads to it.
+pub(crate) fn least_links(
+    alloc: Global,
+    links: &[Link],
+) -> Result<BTreeMap<(Addr, u16), u16>, Memory>
+    ensures { IfOk result (λ m. AreLeastLinks links.now m.entries) }
+{
+    let mut least = BTreeMap::new(alloc);
+    for link in links {
+        let ends = (link.peer, link.weight);
+        let number = lesser(least.get(&ends).copied(), link.number);
+        let Ok(_) = least.insert(ends, number) else {
+            return Err(Memory);
+        };
+    }
+    Ok(least)
+}
+
+/// The link by which a PDU leaves for the node of a number, with the least weights of the edges from
+/// the own node, and the least walks from it.
+pub(crate) fn hop(
+    links: &BTreeMap<(Addr, u16), u16>,
+    nodes: &[Addr],
+    weights: &[Option<u16>],
+    tree: &Tree,
     at: u32,
 ) -> Option<u16>
-    requires rise { IsStrictlyIncreasing nodes.now }
-    requires nodes { graph.now.0 ≡ length nodes.now }
-    requires start { start < length nodes.now }
-    requires tree { IsTree graph.now.1 start tree.now }
+    requires weighed { length weights.now ≡ length nodes.now }
     requires reached { length tree.now ≡ length nodes.now }
     requires at { at < length nodes.now }
-    requires links { HaveLinks (slice_index nodes.now start) links.now (map (lifted nodes.now) graph.now.1) }
-    ensures { IsHop (map (lifted nodes.now) graph.now.1) links.now (slice_index nodes.now start) (slice_index nodes.now at) result }
+    requires steps { (first : ℕ) → first_at tree.now at ≡ Some first → first < length nodes.now }
+    ensures { (start : ℕ) (edges : List Edge) (own : List Link) → AreLeastLinks own links.now.entries → IsSearched start edges nodes.now own weights.now tree.now → IsHop (map (lifted nodes.now) edges) own (slice_index nodes.now start) (slice_index nodes.now at) result }
 {
-    let edges = graph.edges();
     match tree.first_step(at) {
-        Some(first) => match least_weight(edges, start, first) {
-            Some(weight) => least_link(links, nodes[first as usize], weight),
+        Some(first) => match weights[first as usize] {
+            Some(weight) => links.get(&(nodes[first as usize], weight)).copied(),
             None => None,
         },
         None => None,

@@ -6,7 +6,7 @@ ghost use Rattle.rina_route.specs.Nodes.{AreNodes, HaveWeights, lifted};
 ghost use Rattle.rina_route.specs.Routes.{HaveLinks, IsHop, AreHops, AreRoutes, hop_at};
 
 use crate::claims::{claimed, counted};
-use crate::hop::hop;
+use crate::hop::{hop, least_links, least_weights};
 use crate::link::Link;
 use crate::nodes::{graph_of, nodes_of, number_of};
 use rina_base::{Addr, Memory};
@@ -60,9 +60,11 @@ fn rows_of(
     requires ends { AreNodes (slice_index nodes.now start) (map (lifted nodes.now) graph.now.1) nodes.now }
     ensures { IfOk result (λ rows. (dst : ℕ) → IsHop (map (lifted nodes.now) graph.now.1) links.now (slice_index nodes.now start) dst (hop_at rows.entries dst)) }
 {
+    let least = least_links(alloc, links)?;
+    let weights = least_weights(alloc, nodes.len(), graph.edges(), start)?;
     let mut rows = BTreeMap::new(alloc);
     for at in 0..nodes.len() {
-        match hop(links, nodes, graph, tree, start, at as u32) {
+        match hop(&least, nodes, &weights, tree, at as u32) {
             Some(number) => {
                 let Ok(_) = rows.insert(nodes[at], number) else {
                     return Err(Memory);

@@ -1,30 +1,26 @@
 -- The first step of a least walk, and its link.
-use Rattle.std.proofs.Common.{Some, None, length, subst}
+use Rattle.std.proofs.Common.{◌<◌, ◌∙◌, get_or, length, sym, subst, arith}
 use Rattle.rina_graph.specs.declared.graph.Edge.{Edge}
-use Rattle.rina_graph.specs.Walks.{AreEdges}
-use Rattle.rina_route.specs.Routes.{joins, IsLeastIfAny}
-use Rattle.rina_route.proofs.Hops.{hop_none, first_in, some_weight, hop_some, sound_is}
+use Rattle.rina_route.specs.declared.link.Link.{Link}
+use Rattle.rina_route.specs.Routes.{joins, leads_to, IsLeastIfAny}
+use Rattle.rina_route.proofs.Hops.{hop_none, some_weight, hop_some}
 use Rattle.rina_route.proofs.hop.hop.Goals as goal
 
+pub bounds : goal.bounds
+bounds c = let lt = c.requires.steps c.in-Some.first (sym c.in-Some.ensures) in omega (arith, lt, c.requires.weighed)
+
 pub returns-in-None : goal.returns-in-None
-returns-in-None c =
-    let sound : AreEdges (length c.args.nodes.now) c.args.graph.now.1 = sound_is _ _ _ _ c.edges-edges.ensures.all c.requires.nodes c.edges-edges.ensures.sound in
-    hop_none c.args.nodes.now c.args.graph.now.1 c.args.links.now c.args.start c.args.at c.args.tree.now c.requires.rise sound c.requires.start c.requires.at c.requires.tree c.in-None.ensures
+returns-in-None c start edges own links s = hop_none c.args.nodes.now edges own start c.args.at c.args.tree.now s.rise s.sound s.inside c.requires.at s.walked c.in-None.ensures
 
-pub bounds-nodes-first : goal.bounds-nodes-first
-bounds-nodes-first c =
-    let sound : AreEdges (length c.args.nodes.now) c.args.graph.now.1 = sound_is _ _ _ _ c.edges-edges.ensures.all c.requires.nodes c.edges-edges.ensures.sound in
-    first_in c.args.nodes.now c.args.graph.now.1 c.args.links.now c.args.start c.args.at c.args.tree.now c.requires.rise sound c.requires.start c.requires.at c.requires.tree c.in-Some.first c.in-Some.ensures
+pub returns-in-None-weights : goal.returns-in-None-weights
+returns-in-None-weights c start edges own links s =
+    let lt : c.in-Some.first < length c.args.nodes.now = c.requires.steps c.in-Some.first (sym c.in-Some.ensures) in
+    absurd (some_weight c.args.nodes.now edges own start c.args.at c.args.tree.now s.rise s.sound s.inside c.requires.at s.walked c.in-Some.first c.in-Some.ensures
+    (subst (IsLeastIfAny (joins start c.in-Some.first) (λ (e : Edge). e.weight) edges) c.in-None-weights.is (s.weighed.least c.in-Some.first lt)))
 
-pub returns-in-None-least_weight : goal.returns-in-None-least_weight
-returns-in-None-least_weight c =
-    let sound : AreEdges (length c.args.nodes.now) c.args.graph.now.1 = sound_is _ _ _ _ c.edges-edges.ensures.all c.requires.nodes c.edges-edges.ensures.sound in
-    absurd (some_weight c.args.nodes.now c.args.graph.now.1 c.args.links.now c.args.start c.args.at c.args.tree.now c.requires.rise sound c.requires.start c.requires.at c.requires.tree c.in-Some.first c.in-Some.ensures
-    (subst (λ es. IsLeastIfAny (joins c.args.start c.in-Some.first) (λ (e : Edge). e.weight) es None) c.edges-edges.ensures.all c.in-None-least_weight.ensures))
-
-pub returns-in-Some-least_weight : goal.returns-in-Some-least_weight
-returns-in-Some-least_weight c =
-    let sound : AreEdges (length c.args.nodes.now) c.args.graph.now.1 = sound_is _ _ _ _ c.edges-edges.ensures.all c.requires.nodes c.edges-edges.ensures.sound in
-    hop_some c.args.nodes.now c.args.graph.now.1 c.args.links.now c.args.start c.args.at c.args.tree.now c.requires.rise sound c.requires.start c.requires.at c.requires.tree c.in-Some.first c.in-Some-least_weight.weight c.least_link.result c.in-Some.ensures c.requires.links
-    (subst (λ es. IsLeastIfAny (joins c.args.start c.in-Some.first) (λ (e : Edge). e.weight) es (Some c.in-Some-least_weight.weight)) c.edges-edges.ensures.all c.in-Some-least_weight.ensures)
-    c.least_link.ensures
+pub returns-in-Some-weights : goal.returns-in-Some-weights
+returns-in-Some-weights c start edges own links s =
+    let lt : c.in-Some.first < length c.args.nodes.now = c.requires.steps c.in-Some.first (sym c.in-Some.ensures) in
+    hop_some c.args.nodes.now edges own start c.args.at c.args.tree.now s.rise s.sound s.inside c.requires.at s.walked c.in-Some.first c.in-Some-weights.weight c.copied.result c.in-Some.ensures s.linked
+    (subst (IsLeastIfAny (joins start c.in-Some.first) (λ (e : Edge). e.weight) edges) c.in-Some-weights.is (s.weighed.least c.in-Some.first lt))
+    (subst (IsLeastIfAny (leads_to (get_or c.args.nodes.now c.in-Some.first 0) c.in-Some-weights.weight) (λ (l : Link). l.number) own) (sym (c.copied.ensures ∙ c.get.ensures.value)) (links (get_or c.args.nodes.now c.in-Some.first 0, c.in-Some-weights.weight)))
