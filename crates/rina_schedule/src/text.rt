@@ -87,11 +87,20 @@ impl Text {
         self.push(glyph(byte % 16))
     }
 
+    /// Makes room for so many more bytes.
+    fn reserve(&mut self, count: usize) -> Result<(), Memory>
+        ensures { self.new ≡ self.old }
+    {
+        self.bytes.reserve(count)?;
+        Ok(())
+    }
+
     /// Appends bytes in lower-case hexadecimal.
     #[tactic(auto, using(std::proofs::lemmas::List::drop_more))]
     fn pairs(&mut self, bytes: &[u8]) -> Result<(), Memory>
         ensures { Adds result self.old self.new (flat_map hex_pair bytes.now) }
     {
+        self.reserve(bytes.len().saturating_mul(2))?;
         'bytes: for byte in bytes {
             self.pair(*byte)?;
         }
