@@ -1,12 +1,15 @@
 -- A rank after an IPC process of one of its DIFs was asked.
-use Rattle.std.proofs.Common.{◌≡◌, ◌∙◌, ℕ, List, map, slice_get, slice_set, Some, option_map, Result, sym, ap, subst, inl, inr}
+use Rattle.std.proofs.Common.{◌≡◌, ◌∙◌, ◌↔◌, ℕ, List, true, map, slice_get, slice_set, Some, option_map, Result, Ok, Err, sym, ap, subst, inl, inr}
+use Rattle.std.specs.Global.{Vec}
 use Rattle.std.proofs.lemmas.List.{map-set}
 use Rattle.std.proofs.lemmas.Option.{slice_get-map}
 use Rattle.rina_iface.proofs.Changed.{slice_set-same}
 use Rattle.rina_iface.specs.Seen.{Fac}
 use Rattle.rina_dif.specs.declared.cdap.CdapCallError.{CdapCallError}
+use Rattle.rina_dif.specs.declared.cdap.CdapCallError.TheVariants.{Memory}
 use Rattle.rina_dif.specs.declared.dif.Dif.{Dif}
-use Rattle.rina_dif.specs.Asking.{KeepsAll}
+use Rattle.rina_dif.specs.Asking.{KeepsAll, answer_of}
+use Rattle.rina_dif.specs.Facade.{NotesMemory}
 use Rattle.rina_tower.specs.declared.tower.Tower.{Tower}
 use Rattle.rina_tower.specs.Cdap.{AsksOne}
 use Rattle.rina_tower.specs.Bystanders.{Anyone, LeavesNow}
@@ -38,3 +41,15 @@ asked_facs n node bytes result none difs difs' a = elim a [
 
 pub asked_alone : (n node : ℕ) (bytes : List ℕ) (result : Result (List ℕ) CdapCallError) (none : Type 0) (now : ℕ) (difs difs' : List Dif) → AtDif n (AsksOne node bytes result) none difs difs' → LeavesNow Anyone (seen_of_difs now difs) (seen_of_difs now difs')
 asked_alone n node bytes result none now difs difs' a = same_alone Anyone (seen_of_difs now difs) (seen_of_difs now difs') (ap (λ (fs : List Fac). record { now = now; facs = fs }) (asked_facs n node bytes result none difs difs' a))
+
+-- where memory is missing, the answer as it is told says so, and only there
+same_missing : (r : Result (Vec ℕ) CdapCallError) → answer_of r ≡ Err Memory → r ≡ Err Memory
+same_missing (Ok answer) h = absurd cc
+same_missing (Err error) h = cc
+
+-- so a DIF that was asked notes it by that answer
+pub notes_told : (d d' : Dif) (r : Result (Vec ℕ) CdapCallError) → (d.failed ≡ true → r ≡ Err Memory) → (d'.failed ≡ true ↔ (r ≡ Err Memory)) → NotesMemory d d' (answer_of r) (Err Memory)
+notes_told d d' r failed fails = record {
+  failed = λ h. ap answer_of (failed h);
+  fails = (λ h. ap answer_of (fails.0 h), λ h. fails.1 (same_missing r h));
+}
