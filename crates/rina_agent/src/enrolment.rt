@@ -1,5 +1,5 @@
 //! One end of an enrolment: its session and its machine.
-ghost use Rattle.std.specs.Prelude.{◌≡◌, [], ◌∷◌, None, Some, MatchBool, MatchOption, IfOk, OnOk};
+ghost use Rattle.std.specs.Prelude.{◌≡◌, [], None, Some, MatchBool, MatchOption, IfOk, OnOk};
 ghost use Rattle.std.specs.Result.{result_ok};
 ghost use Rattle.rina_session.specs.declared.session.State.TheVariants.{Idle};
 ghost use Rattle.rina_session.specs.Sessions.{got, sent};

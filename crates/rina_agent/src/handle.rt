@@ -1,5 +1,4 @@
 //! Messages of neighbours.
-ghost use Rattle.std.specs.Prelude.{◌≡◌};
 ghost use Rattle.rina_agent.specs.Rows.{DoesOrKeeps, handled};
 
 use crate::agent::Agent;

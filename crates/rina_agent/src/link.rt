@@ -1,5 +1,5 @@
 //! The links of a member, as its management knows them.
-ghost use Rattle.std.specs.Prelude.{◌≡◌, ◌<◌, length, option_copied, slice_get, slice_set, ℕ, ◌∷◌, ◌++◌, [], None, Some, MatchOption, IfOk, IfSome, OnOk};
+ghost use Rattle.std.specs.Prelude.{◌≡◌, ◌<◌, length, slice_set, ℕ, ◌∷◌, ◌++◌, [], None, Some, MatchOption, IfOk, IfSome, OnOk};
 ghost use Rattle.rina_agent.specs.Enrolments.{heard_on, is_numbered, place_of, hears};
 ghost use Rattle.rina_agent.specs.Rows.{up_link};
 

@@ -1,5 +1,5 @@
 //! What a member does at each message of an enrolment.
-ghost use Rattle.std.specs.Prelude.{◌≡◌, ◌<◌, ◌∷◌, ◌++◌, [], Some, None, length, map, slice_set, MatchResult, IfOk, IfSome, OnOk, OnErr};
+ghost use Rattle.std.specs.Prelude.{◌≡◌, ◌<◌, ◌∷◌, ◌++◌, [], Some, None, length, slice_set, MatchResult, IfOk, IfSome, OnOk, OnErr};
 ghost use Rattle.rina_enrol.specs.declared.event.EnrolEvent.TheVariants as events;
 ghost use Rattle.rina_enrol.specs.declared.message.LinkMessage.TheVariants as messages;
 ghost use Rattle.rina_agent.specs.Counts.{next_of, spent};

@@ -1,5 +1,5 @@
 //! The state of a member, and why a call of its management is refused.
-ghost use Rattle.std.specs.Prelude.{◌≡◌, ◌≤◌, ◌+◌, None, Some, MatchResult, OnOk};
+ghost use Rattle.std.specs.Prelude.{◌≡◌, None, Some, MatchResult};
 ghost use Rattle.rina_agent.specs.Counts.{spent};
 
 use rina_base::Memory;

@@ -1,5 +1,5 @@
 //! Names of the objects of a RIB (resource information base).
-ghost use Rattle.std.specs.Prelude.{◌≡◌, ◌≤◌, true, IfErr, IfOk, IfSome};
+ghost use Rattle.std.specs.Prelude.{◌≡◌, true, IfErr, IfOk};
 ghost use Rattle.rina_base.specs.ObjectNames.{is_object_byte, are_parts, is_object_name, object_name_of};
 
 use crate::memory::Memory;

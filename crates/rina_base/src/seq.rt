@@ -1,5 +1,5 @@
 //! A row of values, which a contract sees as a list.
-ghost use Rattle.std.specs.Prelude.{◌≡◌, ◌≤◌, ◌<◌, [], ◌∷◌, ◌++◌, length, take, slice_get, slice_set, ℕ, ◌-◌, OnOk, OnErr, IfOk, MatchOption};
+ghost use Rattle.std.specs.Prelude.{◌≡◌, ◌≤◌, ◌<◌, [], ◌∷◌, ◌++◌, length, slice_get, slice_set, ◌-◌, OnOk, OnErr, IfOk, MatchOption};
 
 use std::alloc::{AllocError, Global};
 use std::marker::Model;

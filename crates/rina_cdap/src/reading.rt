@@ -1,6 +1,5 @@
 //! Reading messages.
-ghost use Rattle.std.specs.Prelude.{◌≡◌, ◌≤◌, ◌<◌, ◌-◌, ◌^◌, ◌⊎◌, true, None, Some, Ok, Err, length, option_map, is_ok, slice_set, OnOk, IfOk, IfErr, IfSome};
-ghost use Rattle.rina_base.specs.Names.{name_at, app_at};
+ghost use Rattle.std.specs.Prelude.{◌≡◌, ◌≤◌, ◌<◌, ◌-◌, ◌⊎◌, true, None, Some, Ok, Err, length, option_map, slice_set, OnOk, IfOk, IfErr};
 ghost use Rattle.rina_cdap.specs.declared.error.CdapError.{CdapError};
 ghost use Rattle.rina_cdap.specs.declared.error.CdapError.TheVariants.{Memory};
 ghost use Rattle.rina_cdap.specs.declared.message.Message.{Message};

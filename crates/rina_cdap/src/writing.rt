@@ -1,5 +1,5 @@
 //! Writing messages.
-ghost use Rattle.std.specs.Prelude.{◌≡◌, ◌∷◌, Ok, List, ℕ, option_map, option_copied, IfOk};
+ghost use Rattle.std.specs.Prelude.{Ok, List, ℕ, option_map, option_copied, IfOk};
 ghost use Rattle.rina_cdap.specs.Messages.{be4, be8, byte, is_response, contents, Spells};
 ghost use Rattle.rina_cdap.specs.Writing.{cell_written, cells_written, written, Adds, Makes};
 

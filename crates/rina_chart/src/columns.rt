@@ -1,9 +1,8 @@
 //! The text of a chart in columns.
-ghost use Rattle.std.specs.Prelude.{◌≡◌, ◌∷◌, ◌++◌, [], codes, map, IfOk};
-ghost use Rattle.std.specs.Fmt.{decimal};
+ghost use Rattle.std.specs.Prelude.{◌≡◌, ◌++◌, map};
 ghost use Rattle.std.specs.List.{flat_map};
 ghost use Rattle.rina_schedule.specs.Spelling.{Adds};
-ghost use Rattle.rina_report.specs.Values.{flow_text, num_text};
+ghost use Rattle.rina_report.specs.Values.{flow_text};
 ghost use Rattle.rina_chart.specs.Columns.{columns, event_tick, event_words, got_words, head_line, not_got_words, printable, row_text, sdu_words, title, title_window, tick_cell, why_words};
 
 use crate::event::Event;

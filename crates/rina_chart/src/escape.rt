@@ -1,6 +1,5 @@
 //! Texts of the input as they may stand in XML.
 ghost use Rattle.std.specs.Prelude.{◌≡◌};
-ghost use Rattle.std.specs.List.{flat_map};
 ghost use Rattle.rina_schedule.specs.Spelling.{Adds};
 ghost use Rattle.rina_chart.specs.Escapes.{entity, escaped, is_plain, spelled};
 

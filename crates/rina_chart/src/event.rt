@@ -1,6 +1,6 @@
 //! What happens to the SDUs of a facility, tick by tick.
 ghost use Rattle.std.specs.Prelude.{◌≡◌, ◌≤◌, ◌<◌, ◌+◌, ◌++◌, ℕ, [], IfOk, OnOk};
-ghost use Rattle.std.specs.List.{filter, filter_map};
+ghost use Rattle.std.specs.List.{filter_map};
 ghost use Rattle.rina_chart.specs.Events.{ended, event_at, events_at, events_in, failed_at, is_shown, is_shown_mark, last_mark, last_of, shown_marks, shown_sdus};
 ghost use Rattle.rina_chart.specs.Sdus.{latest};
 

@@ -1,5 +1,5 @@
 //! A row of a chart in columns: what is drawn on the lifelines, and between them.
-ghost use Rattle.std.specs.Prelude.{◌≡◌, ◌≤◌, ◌∷◌, ◌++◌, ◌-◌, [], length, replicate};
+ghost use Rattle.std.specs.Prelude.{◌≡◌, ◌-◌, replicate};
 ghost use Rattle.rina_schedule.specs.Spelling.{Adds};
 ghost use Rattle.rina_chart.specs.Lanes.{arrow_gap, cell, cells_from, crosses, first_glyph, gap, glyph, is_between, last_glyph, longest, lane_width, name_cell, name_cells, stroke_of};
 

@@ -1,9 +1,7 @@
 //! The text of a picture: an SVG document.
-ghost use Rattle.std.specs.Prelude.{◌≡◌, ◌∷◌, ◌++◌, [], codes};
+ghost use Rattle.std.specs.Prelude.{◌≡◌};
 ghost use Rattle.std.specs.List.{flat_map};
-ghost use Rattle.std.specs.Fmt.{decimal};
 ghost use Rattle.rina_schedule.specs.Spelling.{Adds};
-ghost use Rattle.rina_chart.specs.Escapes.{escaped};
 ghost use Rattle.rina_chart.specs.Svg.{attribute, box_attributes, corner, dark_style, document, extent, head, head_at, heading, label_class, label_text, labelled_line, lifeline_text, light_style, line, markers, opened, opening, point_from, point_to, rectangle, root, shape_text, sized, style, tail, text_end, text_opening, tick_text, view_box};
 
 use crate::escape::add_escaped;

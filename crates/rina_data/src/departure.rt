@@ -1,11 +1,9 @@
 //! What an IPC process does with the PDUs that wait for a link: one of them, which a policy picks, is charged for its
 //! hop and sent below, or written off.
-ghost use Rattle.std.specs.Prelude.{◌≡◌, ◌≤◌, IsSome, length};
+ghost use Rattle.std.specs.Prelude.{◌≡◌, IsSome, length};
 ghost use Rattle.rina_iface.specs.Later.{IsLater};
-ghost use Rattle.rina_iface.specs.Seen.{largest_at};
 ghost use Rattle.rina_iface.specs.Send.{SendsAsSeen};
-ghost use Rattle.rina_policy.specs.Slots.{asked, count_of};
-ghost use Rattle.rina_queue.specs.Queues.{heads_of, queue_place};
+ghost use Rattle.rina_queue.specs.Queues.{queue_place};
 ghost use Rattle.rina_data.specs.Configs.{config_of};
 ghost use Rattle.rina_data.specs.Deciding.{process_of, queue_settings};
 ghost use Rattle.rina_data.specs.Leaving.{Asks, CanGo, Drops, IsAsked, IsRoomy, IsTaken, Tries};

@@ -1,5 +1,5 @@
 //! One IPC process: its links, next hops, queues and ledger.
-ghost use Rattle.std.specs.Prelude.{◌≡◌, ◌≢◌, ◌-◌, ◌<◌, ◌≤◌, OnOk, OnErr, Some, IsSome};
+ghost use Rattle.std.specs.Prelude.{◌≡◌, ◌-◌, ◌<◌, ◌≤◌, OnOk, OnErr, Some, IsSome};
 ghost use Rattle.rina_queue.specs.Queues.{queue_place};
 ghost use Rattle.rina_data.specs.Deciding.{process_of, queue_settings, IsRouted, Forwards, Decides};
 ghost use Rattle.rina_data.specs.Process.{next_hop};

@@ -1,5 +1,5 @@
 //! Joining pieces to SDUs.
-ghost use Rattle.std.specs.Prelude.{◌≡◌, ◌≤◌, ◌+◌, ◌++◌, ◌↔◌, IsTrue, length, IfOk, None, Some, false};
+ghost use Rattle.std.specs.Prelude.{◌≡◌, ◌≤◌, ◌+◌, ◌++◌, ◌↔◌, IsTrue, length, IfOk, None, Some};
 ghost use Rattle.rina_delim.specs.Joining.{piece, HasRoom, missing_after, answer_for, from_of, held_after, answer, joined, empty};
 
 use crate::memory::Memory;

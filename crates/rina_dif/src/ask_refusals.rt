@@ -1,5 +1,5 @@
 //! Why the enrolled member at a node refuses to ask for a flow.
-ghost use Rattle.std.specs.Prelude.{◌≡◌, ◌<◌, ◌*◌, ◌^◌, ◌-◌, ℕ, IfOk, None, Some, length, slice_get};
+ghost use Rattle.std.specs.Prelude.{◌≡◌, ◌<◌, ◌*◌, ◌^◌, ◌-◌, IfOk, None, Some, length, slice_get};
 ghost use Rattle.rina_dir.specs.Directory.{AreEntries, found};
 ghost use Rattle.rina_member.specs.declared.management.Management.{Management};
 ghost use Rattle.rina_pci.specs.Spelling.{AreWidths};

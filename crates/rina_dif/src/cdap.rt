@@ -1,5 +1,5 @@
 //! CDAP messages to the IPC processes of a DIF.
-ghost use Rattle.std.specs.Prelude.{◌≡◌, ◌<◌, ◌↔◌, true, Err, length, IfOk, OnOk, OnErr};
+ghost use Rattle.std.specs.Prelude.{◌≡◌, ◌<◌, ◌↔◌, true, Err, length, IfOk, OnErr};
 ghost use Rattle.rina_dif.specs.declared.cdap.CdapCallError.TheVariants.{Memory as MemoryWanted};
 ghost use Rattle.rina_dif.specs.Asking.{Asks, IsAnswer, KeepsAll, answer_of, is_done, shown_after};
 ghost use Rattle.rina_dif.specs.Facade.{GoesOn, StaysStanding};

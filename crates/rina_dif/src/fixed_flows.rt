@@ -1,6 +1,5 @@
 //! Flows that the stack fixes.
-ghost use Rattle.std.specs.Prelude.{◌≡◌, ◌≢◌, ◌*◌, ◌+◌, ◌-◌, ◌<◌, ◌^◌, ◌==◌, ◌&&◌, List, IsSome, OnOk, OnErr, IfOk, Err, Some, count_by, true, ◌↔◌, ◌≤◌, length};
-ghost use Rattle.rina_cube.specs.declared.Cube.{Cube};
+ghost use Rattle.std.specs.Prelude.{◌≡◌, ◌≢◌, ◌*◌, ◌+◌, ◌-◌, ◌<◌, ◌^◌, ◌==◌, ◌&&◌, List, IsSome, OnOk, OnErr, IfOk, Err, Some, true, ◌↔◌, ◌≤◌, length};
 ghost use Rattle.rina_iface.specs.declared.error.AllocateError.TheVariants.{Memory as MemoryWanted};
 ghost use Rattle.rina_iface.specs.declared.state.PortState.TheVariants.{Allocated};
 ghost use Rattle.rina_iface.specs.Allocate.{new_end};
@@ -8,7 +7,7 @@ ghost use Rattle.rina_iface.specs.Bind.{Binds, with_name_once};
 ghost use Rattle.rina_iface.specs.Ends.{drawn_at};
 ghost use Rattle.rina_iface.specs.Seen.{Seen};
 ghost use Rattle.rina_law.specs.Direction.{Direction};
-ghost use Rattle.rina_pci.specs.Spelling.{AreWidths, pci_size};
+ghost use Rattle.rina_pci.specs.Spelling.{AreWidths};
 ghost use Rattle.rina_data.specs.Configs.{config_of, cube_by, greatest, piece_size};
 ghost use Rattle.rina_dif_law.specs.Numbered.{asked_at, is_asker};
 ghost use Rattle.rina_dif_law.specs.Standing.{IsConfig};

@@ -1,5 +1,5 @@
 //! What comes to a DIF on its links.
-ghost use Rattle.std.specs.Prelude.{◌≡◌, ◌<◌, ◌≤◌, List, Some, length, false, true, ◌↔◌, IfOk, IsTrue, Err};
+ghost use Rattle.std.specs.Prelude.{◌≡◌, ◌<◌, ◌≤◌, List, Some, length, false, true, ◌↔◌, IsTrue, Err};
 ghost use Rattle.rina_base.specs.Pdus.{key_of};
 ghost use Rattle.rina_base.specs.declared.pdu.PduKind.TheVariants.{Piece};
 ghost use Rattle.rina_iface.specs.Later.{IsLater};

@@ -1,5 +1,5 @@
 //! What the management connections of links do by the clock.
-ghost use Rattle.std.specs.Prelude.{◌≡◌, ◌<◌, ◌≤◌, ℕ, Err, IfOk, IsSome, List, Ok, OnErr, OnOk, length};
+ghost use Rattle.std.specs.Prelude.{◌≡◌, ◌<◌, ◌≤◌, Err, IfOk, IsSome, List, Ok, OnErr, OnOk, length};
 ghost use Rattle.rina_base.specs.declared.number.Port.{Port};
 ghost use Rattle.rina_iface.specs.declared.error.FreeError.TheVariants as free;
 ghost use Rattle.rina_iface.specs.Free.{FreesAsSeen};

@@ -8,7 +8,6 @@ ghost use Rattle.rina_data.specs.Configs.{config_of};
 ghost use Rattle.rina_data.specs.Losing.{FindsLost};
 ghost use Rattle.rina_dif_law.specs.Losing.{NoneLive};
 ghost use Rattle.rina_dif_law.specs.Sending.{home};
-ghost use Rattle.rina_flows.specs.Elsewhere.{SameBut};
 ghost use Rattle.rina_flows.specs.Stopping.{is_here};
 ghost use Rattle.rina_dif.specs.Elsewhere.{ChangesOnly, ChangesProcess, IsEndOf, WhenOk};
 ghost use Rattle.rina_dif.specs.Holding.{Holds, Stands};

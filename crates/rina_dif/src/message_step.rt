@@ -1,8 +1,7 @@
 //! The clock step of a DIF that offers a message of management, which comes after all others.
-ghost use Rattle.std.specs.Prelude.{◌≡◌, ◌<◌, ◌≤◌, List, Some, IfOk, OnErr, length};
+ghost use Rattle.std.specs.Prelude.{◌≡◌, ◌<◌, ◌≤◌, List, Some, OnErr, length};
 ghost use Rattle.rina_iface.specs.Free.{FreesAsSeen};
 ghost use Rattle.rina_iface.specs.Later.{IsLater};
-ghost use Rattle.rina_iface.specs.Seen.{Seen};
 ghost use Rattle.rina_law.specs.Direction.{Direction};
 ghost use Rattle.rina_data.specs.Configs.{config_of};
 ghost use Rattle.rina_dif_law.specs.Sending.{home};

@@ -1,11 +1,10 @@
 //! What leaves a DIF on its links.
-ghost use Rattle.std.specs.Prelude.{◌≡◌, ◌<◌, List, length, map, true, false, ◌↔◌, Err, slice_get, Some};
+ghost use Rattle.std.specs.Prelude.{◌≡◌, ◌<◌, List, length, map, true, false, ◌↔◌, Err, Some};
 ghost use Rattle.rina_iface.specs.Later.{IsLater};
 ghost use Rattle.rina_iface.specs.Send.{SendsAsSeen};
 ghost use Rattle.rina_law.specs.Direction.{Direction};
 ghost use Rattle.rina_policy.specs.Slots.{Slot};
 ghost use Rattle.rina_dif_law.specs.Outgoing.{Outs};
-ghost use Rattle.rina_dif_law.specs.Sending.{home};
 ghost use Rattle.rina_dif_law.specs.Upward.{IsSilent};
 ghost use Rattle.rina_data.specs.declared.step.StepError.TheVariants.{Memory};
 ghost use Rattle.rina_data.specs.Configs.{config_of};

@@ -5,7 +5,6 @@ ghost use Rattle.rina_iface.specs.declared.ends.End.{End};
 ghost use Rattle.rina_law.specs.Direction.{Direction};
 ghost use Rattle.rina_flows.specs.Elsewhere.{ChangesAt};
 ghost use Rattle.rina_dif.specs.Holding.{Holds, Passes, Stands};
-ghost use Rattle.rina_dif.specs.Shown.{seen_of};
 
 use crate::dif::Dif;
 

@@ -1,5 +1,5 @@
 //! How flows of a DIF are freed.
-ghost use Rattle.std.specs.Prelude.{◌≡◌, ◌<◌, ◌↔◌, ℕ, List, length, slice_get, Some, Ok, Err, true, false, None};
+ghost use Rattle.std.specs.Prelude.{◌≡◌, ◌<◌, ◌↔◌, List, length, slice_get, Some, Ok, Err, true, false};
 ghost use Rattle.rina_iface.specs.declared.ends.End.{End};
 ghost use Rattle.rina_iface.specs.declared.error.FreeError.TheVariants.{Memory as NoneFound};
 ghost use Rattle.rina_iface.specs.declared.state.PortState.TheVariants.{Allocated, Pending};

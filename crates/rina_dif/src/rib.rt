@@ -1,5 +1,5 @@
 //! What the IPC processes of a DIF show of their objects.
-ghost use Rattle.std.specs.Prelude.{◌≡◌, ◌<◌, ◌++◌, length, map, IfOk, OnOk};
+ghost use Rattle.std.specs.Prelude.{◌≡◌, ◌<◌, length, map, IfOk, OnOk};
 ghost use Rattle.std.specs.List.{fold};
 ghost use Rattle.rina_base.specs.ObjectNames.{IsObjectName};
 ghost use Rattle.rina_rib.specs.Walks.{named_of, within};

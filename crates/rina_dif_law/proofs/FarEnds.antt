@@ -3,7 +3,6 @@ use Rattle.std.proofs.Common.{◌≡◌, ℕ, ◌≤◌, List, length, sym, ◌�
 use Rattle.std.proofs.lemmas.Bool.{cases_lt}
 use Rattle.std.proofs.lemmas.Option.{same_Some, slice_get_within}
 use Rattle.rina_iface.specs.declared.ends.End.{End}
-use Rattle.rina_iface.specs.Journal.{At}
 use Rattle.rina_iface.specs.Later.{AreFarOf, AreLater, IsFarOf, IsLaterEnd}
 use Rattle.rina_iface.proofs.FarEnds.{answers_old, answers_on}
 use Rattle.rina_iface.proofs.LaterOn.{ends_on, ends_wider}

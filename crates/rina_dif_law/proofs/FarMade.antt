@@ -1,5 +1,5 @@
 -- A DIF that stands goes on to stand as a member makes the far end of a flow that was asked for there.
-use Rattle.std.proofs.Common.{◌≡◌, ◌≢◌, ℕ, ◌+◌, ◌*◌, ◌<◌, ◌≤◌, ◌&&◌, cond, eqb, List, [], ◌∷◌, ◌++◌, get_or, length, length-set, slice_get, slice_set, None, Option, Some, option_and_then, refl, sym, ◌∙◌, ap, subst, arith, inl, inr, ◌⊎◌}
+use Rattle.std.proofs.Common.{◌≡◌, ◌≢◌, ℕ, ◌+◌, ◌*◌, ◌<◌, ◌&&◌, cond, eqb, List, [], ◌∷◌, ◌++◌, get_or, length, length-set, slice_get, slice_set, None, Option, Some, option_and_then, refl, sym, ◌∙◌, ap, subst, arith, inl, inr, ◌⊎◌}
 use Rattle.std.specs.Prelude.{position}
 use Rattle.std.proofs.lemmas.Bool.{cases_eq}
 use Rattle.std.proofs.lemmas.List.Quantifiers.{position-Some}

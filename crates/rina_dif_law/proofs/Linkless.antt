@@ -1,5 +1,5 @@
 -- A link that is lost, and the flows that fail for it, keep standing.
-use Rattle.std.proofs.Common.{◌≡◌, ℕ, zero, suc, ◌≤◌, Bool, true, false, cond, eqb, List, [], length, length-set, slice_get, slice_set, Some, refl, sym, ◌∙◌, ap, subst, arith, inl, inr}
+use Rattle.std.proofs.Common.{◌≡◌, ℕ, zero, suc, Bool, true, false, cond, eqb, List, [], length, length-set, slice_get, slice_set, Some, refl, sym, ◌∙◌, ap, subst, arith, inl, inr}
 use Rattle.rina_base.specs.declared.number.Port.{Port}
 use Rattle.rina_iface.specs.declared.state.Fail.{Fail}
 use Rattle.rina_iface.specs.declared.state.Fail.TheVariants.{Below}

@@ -85,7 +85,7 @@ use Rattle.rina_dif_law.proofs.Placed.{qos_from}
 use Rattle.rina_dif_law.specs.Places.{ids_from}
 use Rattle.rina_dif_law.proofs.Verdicts.{behind_old, duplicate_known, missing_same, roomless, stateless, unrouted}
 use Rattle.rina_dif_law.proofs.Ends.{same_some}
-use Rattle.rina_dif_law.proofs.Writing.{IsNoted, in_append, in_one, kept_noted, known_more, known_same, known_set, line_noted, noted_as, noted_on, one_noted, ports_lost, ports_same, process_noted, quiet_noted, same_noted, still, was_lawful, writes, written_on}
+use Rattle.rina_dif_law.proofs.Writing.{IsNoted, in_append, in_one, kept_noted, known_more, known_same, known_set, line_noted, noted_as, noted_on, one_noted, ports_lost, ports_same, process_noted, quiet_noted, same_noted, was_lawful, writes, written_on}
 
 -- ---- what leaves
 

@@ -1,5 +1,5 @@
 //! The keys of directory entries.
-ghost use Rattle.std.specs.Prelude.{◌≡◌, ◌+◌, ◌≤◌, ◌<◌, length, take};
+ghost use Rattle.std.specs.Prelude.{◌≡◌, ◌+◌, ◌≤◌, length, take};
 ghost use Rattle.rina_dir.specs.Directory.{key_byte, key_of};
 
 /// How many bytes the longest key has: `/dir/` and the longest name of an application.

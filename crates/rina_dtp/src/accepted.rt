@@ -1,5 +1,5 @@
 //! The numbers that a receiver accepted, by its kind.
-ghost use Rattle.std.specs.Prelude.{◌≡◌, ◌≤◌, ◌<◌, ◌+◌, ◌-◌, ◌*◌, ◌^◌, ℕ, [], length, true, false, IfOk};
+ghost use Rattle.std.specs.Prelude.{◌≡◌, ◌≤◌, ◌<◌, ◌+◌, ◌-◌, ◌*◌, ◌^◌, ℕ, length, true, false, IfOk};
 ghost use Rattle.rina_law.specs.Receiver.{absent_verdict};
 ghost use Rattle.rina_dtp.specs.Accepted.{kind_of, known_verdict, number_verdict, judged_as, is_held, top_of, MayCount, IsCounted, IsGiven, FollowsOne, FollowsAll, Follows, HasSlotsFor, IsFresh};
 ghost use Rattle.rina_cube.specs.Cubes.{IsCube};

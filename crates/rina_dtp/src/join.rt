@@ -1,5 +1,5 @@
 //! Joining the pieces that were accepted, and the SDUs that wait to be fetched.
-ghost use Rattle.std.specs.Prelude.{◌≡◌, ◌≤◌, ◌<◌, ◌+◌, ◌-◌, ◌*◌, ◌^◌, ◌++◌, [], ◌∷◌, ℕ, length, map, IfOk, Some, None, slice_set, slice_get, drop, Option, IfSome, All, true, false, IsTrue, ◌↔◌};
+ghost use Rattle.std.specs.Prelude.{◌≡◌, ◌≤◌, ◌<◌, ◌+◌, ◌-◌, ◌*◌, ◌^◌, ◌++◌, [], ◌∷◌, length, map, IfOk, Some, None, Option, All, true, false, IsTrue, ◌↔◌};
 ghost use Rattle.std.specs.Vec.{vec_capacity};
 ghost use Rattle.rina_delim.specs.Joining.{piece, empty, answer, joined, held_after, HasRoom};
 ghost use Rattle.rina_dtp.specs.Slots.{Waiting};

@@ -1,5 +1,5 @@
 //! The sequence numbers of a sender. They begin again at 0 once nothing of the last run can be left (Watson's delta-t).
-ghost use Rattle.std.specs.Prelude.{◌≡◌, ◌+◌, ◌*◌, ◌^◌, ◌<◌, ◌≤◌, None, Some, IfOk, if◌then◌else◌};
+ghost use Rattle.std.specs.Prelude.{◌≡◌, ◌+◌, ◌*◌, ◌^◌, ◌<◌, ◌≤◌, None, Some, IfOk};
 
 use rina_base::Tick;
 

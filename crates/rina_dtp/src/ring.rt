@@ -1,5 +1,5 @@
 //! The numbers that a datagram receiver accepted lately.
-ghost use Rattle.std.specs.Prelude.{◌≡◌, ℕ, ◌+◌, ◌%◌, ◌<◌, ◌≤◌, ◌^◌, length, true, false, max, if◌then◌else◌, nat_le, Bool, ◌==◌, ◌&&◌, IfOk};
+ghost use Rattle.std.specs.Prelude.{◌≡◌, ℕ, ◌+◌, ◌%◌, ◌<◌, ◌≤◌, ◌^◌, length, true, false, max, if◌then◌else◌, nat_le, ◌==◌, ◌&&◌, IfOk};
 ghost use Rattle.rina_dtp.specs.Ring.{bit, has_number, IsAdded, IsAlone};
 
 use rina_base::Memory;

@@ -3,7 +3,7 @@ ghost use Rattle.std.specs.Prelude.{◌≡◌, ◌≤◌, ◌<◌, ◌+◌, ◌-
 ghost use Rattle.rina_base.specs.Pdus.{pdu_of};
 ghost use Rattle.rina_cube.specs.Cubes.{IsCube};
 ghost use Rattle.rina_law.specs.Receiver as law;
-ghost use Rattle.rina_dtp.specs.Accepted.{known_verdict, number_verdict, judged_as, is_accepted, is_held};
+ghost use Rattle.rina_dtp.specs.Accepted.{known_verdict, number_verdict, judged_as, is_accepted};
 ghost use Rattle.rina_dtp.specs.Receiving.{present_at, cleared, IsAccepted, IsHeldIn, IsStep, Steps, slots_of, StartsFresh, run_numbers, kept_numbers, end_cause, ended_with, broken_with, lost_in, drops};
 ghost use Rattle.rina_dtp.specs.Fetching.{HasSome, TakesFirst, after_first, gathered, GoesOn, ChangesKept, KeepsNoMore, StandsAsBefore};
 ghost use Rattle.rina_dtp.specs.Observed.{IsNew, TellsPresence, TellsNext, TellsJoining, TellsLastIn, KeepsNoneUntil, KeepsFrom, from_kept};

@@ -1,8 +1,8 @@
 //! The pieces that a reliable receiver holds until the gap before them is filled.
-ghost use Rattle.std.specs.Prelude.{◌≡◌, ◌≤◌, ◌<◌, ◌+◌, ◌-◌, ◌%◌, ◌^◌, ℕ, length, All, IfOk, IfSome, IsTrue, ◌↔◌, true, false, slice_index_or};
+ghost use Rattle.std.specs.Prelude.{◌≡◌, ◌≤◌, ◌<◌, ◌+◌, ◌-◌, ◌%◌, ◌^◌, length, All, IfOk, IfSome, IsTrue, ◌↔◌, true, false};
 ghost use Rattle.rina_dtp.specs.Fetching.{HasSome, TakesFirst, FindsHeld};
 ghost use Rattle.rina_dtp.specs.Receiving.{held_in};
-ghost use Rattle.rina_dtp.specs.Shelf.{no_place, place_at, holds, with_piece, without, HasRoomOf, IsUnused};
+ghost use Rattle.rina_dtp.specs.Shelf.{place_at, holds, with_piece, without, HasRoomOf, IsUnused};
 
 use crate::place::Place;
 use rina_base::Memory;

@@ -20,7 +20,7 @@ use Rattle.rina_law.specs.Direction.{Direction, start}
 use Rattle.rina_law.specs.Constants.{Constants}
 use Rattle.rina_dif_law.specs.Ids.{Ids}
 use Rattle.rina_flows.specs.Adding.{AddsFar, IsNewFar, begun_now, turned}
-use Rattle.rina_flows.specs.Tied.{IsAt, IsInboundAt, IsReceiving, IsSending, IsTied, ids_by, ids_of, inward, outward}
+use Rattle.rina_flows.specs.Tied.{IsAt, IsInboundAt, IsReceiving, IsSending, IsTied, ids_of, inward, outward}
 use Rattle.rina_flows.proofs.Added.{IsAddition, tied_added}
 use Rattle.rina_flows.proofs.Adding.{new_ids, new_line}
 use Rattle.rina_flows.proofs.Lasting.{new_at, receiving_new, sending_new}

@@ -1,5 +1,5 @@
 -- The end of an asker is answered: the flows stay tied.
-use Rattle.std.proofs.Common.{◌≡◌, ℕ, ◌+◌, ◌*◌, List, [], ◌∷◌, map, length, slice_get, slice_set, Some, None, refl, sym, ◌∙◌, ap, subst, arith, inl, inr}
+use Rattle.std.proofs.Common.{◌≡◌, ℕ, ◌*◌, List, [], ◌∷◌, map, length, slice_get, slice_set, Some, None, refl, sym, ◌∙◌, ap, subst, arith, inl, inr}
 use Rattle.std.proofs.lemmas.List.{map-set}
 use Rattle.std.proofs.Math.ListN.{drop}
 use Rattle.std.proofs.Math.Seq.{drop-nil}
@@ -8,20 +8,17 @@ use Rattle.rina_conn.specs.declared.conn.Conn.{Conn}
 use Rattle.rina_conn.specs.declared.form.Peer.{Peer}
 use Rattle.rina_conn.specs.Carrying.{carry}
 use Rattle.rina_conn.specs.Conns.{IsNewConn}
-use Rattle.rina_conn.specs.Sending.{IsFormOf, IsSender}
-use Rattle.rina_conn.specs.Waiting.{Waits}
+use Rattle.rina_conn.specs.Sending.{IsSender}
 use Rattle.rina_cube.specs.declared.Cube.{Cube}
 use Rattle.rina_cube.specs.Cubes.{delta_of}
 use Rattle.rina_cube.specs.declared.Kind.{Kind}
 use Rattle.rina_cube.specs.declared.Kind.TheVariants.{Datagram, Loose, Reliable}
 use Rattle.rina_data.specs.Configs.{Config, cube_by, greatest, piece_size}
-use Rattle.rina_data.proofs.Finding.{there}
 use Rattle.rina_dif_law.specs.Ids.{Ids}
 use Rattle.rina_dif_law.specs.Lifting.{ticked}
 use Rattle.rina_dif_law.specs.Standing.{IsJournal}
 use Rattle.rina_dif_law.proofs.Finding.{beside}
 use Rattle.rina_dif_law.proofs.Own.{partner_back}
-use Rattle.rina_dtcp.specs.Plans.{Plan}
 use Rattle.rina_dtcp.specs.Rows.{Stands, sent_from, waiting}
 use Rattle.rina_dtcp.specs.Senders.{Kept}
 use Rattle.rina_dtp.specs.declared.numbers.Numbers.{Numbers}
@@ -30,16 +27,15 @@ use Rattle.rina_dtp.specs.Observed.{IsNew}
 use Rattle.rina_dtp.specs.Receiving.{Receiving}
 use Rattle.rina_iface.specs.declared.ends.End.{End}
 use Rattle.rina_iface.specs.declared.state.PortState.TheVariants.{Allocated, Pending}
-use Rattle.rina_iface.specs.Journal.{At, HasPartner}
 use Rattle.rina_iface.proofs.Changed.{slice_set-same}
 use Rattle.rina_law.specs.Constants.{Constants}
 use Rattle.rina_law.specs.Direction.{Direction, start}
 use Rattle.rina_law.specs.Line.{opening}
 use Rattle.rina_law.specs.Receiver.{Piece}
-use Rattle.rina_law.specs.Sender.{Member, Sender}
+use Rattle.rina_law.specs.Sender.{Sender}
 use Rattle.rina_flows.specs.Adding.{Binds, CanBind}
 use Rattle.rina_flows.specs.Calls.{Becomes, IsToldPeer}
-use Rattle.rina_flows.specs.Tied.{IsAt, IsInboundAt, IsNewAt, IsReceiving, IsSending, IsTied, IsUnused, conns_of, ids_by, ids_of, inward, outward}
+use Rattle.rina_flows.specs.Tied.{IsAt, IsNewAt, IsReceiving, IsSending, IsTied, IsUnused, conns_of, ids_by, ids_of, inward, outward}
 use Rattle.rina_flows.proofs.Framed.{tied_set}
 use Rattle.rina_flows.proofs.Lasting.{receiving_new}
 use Rattle.rina_flows.proofs.Offered.{flows_of}

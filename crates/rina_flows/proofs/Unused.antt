@@ -1,13 +1,12 @@
 -- The ends that were never allocated, as one end changes, and as one is added.
-use Rattle.std.proofs.Common.{◌≡◌, ◌≢◌, ℕ, ◌<◌, List, [], ◌∷◌, ◌++◌, length, slice_get, slice_set, Some, refl, sym, ◌∙◌, ap, subst, inl, inr}
+use Rattle.std.proofs.Common.{◌≡◌, ℕ, List, ◌++◌, slice_get, slice_set, ◌∙◌, ap, subst, inl, inr}
 use Rattle.std.proofs.lemmas.Bool.Decides.{eqb_tells}
-use Rattle.std.proofs.lemmas.Option.{slice_get_within}
 use Rattle.rina_dif_law.specs.Standing.{IsJournal}
 use Rattle.rina_dif_law.proofs.Appended.{still_partner}
 use Rattle.rina_dif_law.proofs.Journals.{IsConst, const_refl, partner_const}
 use Rattle.rina_iface.specs.declared.ends.End.{End}
 use Rattle.rina_iface.specs.declared.state.PortState.TheVariants.{Allocated, Pending}
-use Rattle.rina_iface.specs.Journal.{At, HasPartner, IsPartner}
+use Rattle.rina_iface.specs.Journal.{At, HasPartner}
 use Rattle.rina_iface.proofs.Changed.{slice_get-set_other, slice_get-set_same}
 use Rattle.rina_flows.specs.Tied.{IsUnused, IsUsed}
 

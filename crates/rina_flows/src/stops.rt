@@ -1,11 +1,8 @@
 //! How the allocated ends of a node end together.
-ghost use Rattle.std.specs.Prelude.{◌≡◌, ◌+◌, ◌≤◌, ◌<◌, ◌≢◌, length, slice_get, Some, List, IfSome};
+ghost use Rattle.std.specs.Prelude.{◌≡◌, ◌<◌, length, slice_get, Some, IfSome};
 ghost use Rattle.std.specs.Vec.{vec_capacity};
-ghost use Rattle.rina_conn.specs.declared.conn.Conn.{Conn};
 ghost use Rattle.rina_iface.specs.declared.ends.End.{End};
-ghost use Rattle.rina_flows.specs.Calls.{Becomes};
 ghost use Rattle.rina_dif_law.specs.Losing.{IsAllocatedAt};
-ghost use Rattle.rina_flows.specs.Delivering.{GivesUpAll, closed};
 ghost use Rattle.rina_flows.specs.Elsewhere.{ChangesAt};
 ghost use Rattle.rina_flows.specs.Stopping.{StopsAll, held_before, held_by, is_here};
 

@@ -1,5 +1,5 @@
 //! Printing a schedule, and a stack with its schedule.
-ghost use Rattle.std.specs.Prelude.{◌≡◌, ◌++◌, codes, IfOk};
+ghost use Rattle.std.specs.Prelude.{◌≡◌, IfOk};
 ghost use Rattle.std.specs.List.{flat_map};
 ghost use Rattle.rina_schedule.specs.Spelling.{Adds};
 ghost use Rattle.rina_gen.specs.Input.{input};

@@ -1,5 +1,5 @@
 //! Printing a stack.
-ghost use Rattle.std.specs.Prelude.{◌≡◌, ◌∷◌, ◌++◌, [], codes};
+ghost use Rattle.std.specs.Prelude.{◌≡◌, []};
 ghost use Rattle.std.specs.List.{flat_map};
 ghost use Rattle.rina_schedule.specs.Spelling.{Adds};
 ghost use Rattle.rina_gen.specs.Text.{led, quoted, node_text, ends_text, storm_text, wire_head, wire_limits, delay_text, wire_text, link_head, link_ends, member_text, low_link_text, link_text, end_text, flow_text, column_text, low_head, high_head, low_text, high_text, stack_text};

@@ -1,5 +1,5 @@
 -- The ids of several IPC processes, one of which draws, or gives back.
-use Rattle.std.proofs.Common.{◌≡◌, ◌≢◌, ℕ, zero, suc, ◌+◌, ◌-◌, ◌<◌, ◌≤◌, List, [], ◌∷◌, ◌++◌, get_or, length, position, slice_get, slice_set, Option, Some, None, IfOk, Result, Ok, Err, refl, sym, ◌∙◌, ap, subst, arith}
+use Rattle.std.proofs.Common.{◌≡◌, ◌≢◌, ℕ, zero, suc, ◌+◌, ◌-◌, ◌<◌, ◌≤◌, List, [], ◌∷◌, get_or, length, position, slice_get, slice_set, Option, Some, None, IfOk, Result, Ok, Err, refl, sym, ◌∙◌, ap, arith}
 use Rattle.std.proofs.lemmas.List.Quantifiers.{position-Some}
 use Rattle.std.proofs.lemmas.Option.{none-some, same_Some, cond_some, slice_get_read, slice_get_within}
 use Rattle.rina_base.specs.declared.memory.Memory.{Memory}
@@ -7,7 +7,7 @@ use Rattle.rina_ids.specs.declared.members.Draw.{Draw}
 use Rattle.rina_ids.specs.declared.slot.Slot.{Slot}
 use Rattle.rina_ids.specs.declared.slot.Slot.TheVariants.{InUse}
 use Rattle.rina_ids.specs.Ids.{is_free, drawn, free_id, fresh_id, free_or, given_back, HasDrawn}
-use Rattle.rina_ids.specs.Members.{AreDrawnAt, AreUndrawn, CepIds, DrawsAt, IsDrawn, IsDrawnAt, with_drawn, with_rest}
+use Rattle.rina_ids.specs.Members.{CepIds, DrawsAt, IsDrawn, IsDrawnAt, with_rest}
 
 -- how far a free id goes
 free_next : (greatest now : ℕ) (slots : List Slot) (cep : ℕ) (o : Option ℕ) → position (is_free now) slots ≡ o → free_or o (fresh_id greatest slots) ≡ Some cep → (1 ≤ cep) × (cep ≤ length slots + 1)

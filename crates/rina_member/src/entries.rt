@@ -1,5 +1,5 @@
 //! How the management of a member follows the names that are registered at its node.
-ghost use Rattle.std.specs.Prelude.{◌≡◌, None, Some, option_copied};
+ghost use Rattle.std.specs.Prelude.{None, Some, option_copied};
 ghost use Rattle.std.specs.Fmt.{decimal};
 ghost use Rattle.rina_member.specs.Managements.{MayMakeEntry};
 

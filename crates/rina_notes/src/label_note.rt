@@ -5,7 +5,7 @@ ghost use Rattle.rina_notes.specs.declared.label.Label.{Label};
 ghost use Rattle.rina_report.specs.declared.answer.Answer.TheVariants as answers;
 ghost use Rattle.rina_report.specs.declared.note.Note.{Note};
 ghost use Rattle.rina_notes.specs.Told.{drawn_told};
-ghost use Rattle.rina_notes.specs.Look.{same_num, same_port, same_why, same_fail, same_state, same_drawn, ends_at, label_notes, state_at, state_notes, IsShownAt, IsShownIn, HaveTold, shown_now, looked, Extends};
+ghost use Rattle.rina_notes.specs.Look.{same_why, same_fail, same_state, same_drawn, ends_at, label_notes, state_at, state_notes, IsShownAt, IsShownIn, HaveTold, shown_now, looked, Extends};
 
 use crate::label::{Label, Labels};
 use crate::line::Line;

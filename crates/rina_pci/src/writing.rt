@@ -1,5 +1,5 @@
 //! Writing PDUs.
-ghost use Rattle.std.specs.Prelude.{◌≡◌, ◌++◌, ◌<◌, ◌^◌, true, OnOk, IfOk, Ok};
+ghost use Rattle.std.specs.Prelude.{◌≡◌, ◌++◌, ◌<◌, true, OnOk, IfOk, Ok};
 ghost use Rattle.rina_base.specs.Pdus.{IsProper};
 ghost use Rattle.rina_pci.specs.Spelling.{IsWidth, AreWidths, Fits, be, head, spelling};
 ghost use Rattle.rina_pci.specs.Writing.{fits, field, Adds, Gives, addresses_written, numbers_written, written};

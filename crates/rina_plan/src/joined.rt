@@ -1,5 +1,5 @@
 //! The rules on what walks of links join.
-ghost use Rattle.std.specs.Prelude.{◌≡◌, ◌<◌, ◌==◌, length, map, position, IfOk, IfSome};
+ghost use Rattle.std.specs.Prelude.{◌≡◌, ◌<◌, ◌==◌, length, position, IfOk, IfSome};
 ghost use Rattle.std.specs.List.{list_any};
 ghost use Rattle.rina_cube.specs.declared.Cube.{Cube};
 ghost use Rattle.rina_plan.specs.declared.dif.DifPlan.{DifPlan};

@@ -1,5 +1,5 @@
 //! Which nodes of a DIF a walk of its links joins.
-ghost use Rattle.std.specs.Prelude.{◌≡◌, ℕ, ◌==◌, ◌+◌, ◌<◌, ◌↔◌, IsTrue, Contains, length, map, position, Some, option_map, IfOk, IfSome, IsSome};
+ghost use Rattle.std.specs.Prelude.{◌≡◌, ◌==◌, ◌<◌, ◌↔◌, IsTrue, length, map, position, Some, IfOk, IfSome, IsSome};
 ghost use Rattle.rina_plan.specs.declared.dif.LinkPlan.{LinkPlan};
 ghost use Rattle.rina_plan.specs.Parts.{ends_of, part_in, is_same, is_one_part, ArePartsOf, Merges, merged};
 ghost use Rattle.rina_plan.specs.Walks.{is_joined, AreJoined};

@@ -1,7 +1,6 @@
 //! Numbers that stand twice: ids of cubes, and nodes and addresses of members. Each function returns
 //! the place of the first DIF that breaks its rule.
-ghost use Rattle.std.specs.Prelude.{◌≡◌, ◌<◌, ◌==◌, ◌||◌, length, map, position, IfOk, IfSome};
-ghost use Rattle.std.specs.List.{list_any};
+ghost use Rattle.std.specs.Prelude.{◌≡◌, ◌<◌, ◌==◌, ◌||◌, map, position, IfOk};
 ghost use Rattle.rina_cube.specs.declared.Cube.{Cube};
 ghost use Rattle.rina_plan.specs.declared.dif.MemberPlan.{MemberPlan};
 ghost use Rattle.rina_plan.specs.declared.dif.DifPlan.{DifPlan};

@@ -1,5 +1,5 @@
 //! The shelf: policies by name.
-ghost use Rattle.std.specs.Prelude.{◌≡◌, ◌+◌, ◌<◌, ◌≤◌, ◌↔◌, [], ◌∷◌, ◌++◌, ℕ, length, map, option_map, slice_get, slice_set, true, false, Some, None, IsSome, IsNone, IfSome, IfNone, IfOk, MatchOption, OnOk, OnErr, IsErr};
+ghost use Rattle.std.specs.Prelude.{◌≡◌, ◌+◌, ◌<◌, ◌≤◌, ◌↔◌, [], ◌∷◌, ◌++◌, ℕ, length, option_map, slice_get, true, false, Some, None, IfSome, IfNone, IfOk, MatchOption, OnOk, OnErr, IsErr};
 ghost use Rattle.std.specs.Str.{bytes_eq};
 ghost use Rattle.rina_policy.specs.Count.{counted};
 ghost use Rattle.rina_policy.specs.Slots.{slot, slots_of, place_of, has_name, count_of, asked, retired, policy_of};

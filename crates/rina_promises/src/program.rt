@@ -1,6 +1,5 @@
 //! The program: words, an input and an output.
 ghost use Rattle.std.specs.Prelude.{◌≡◌, ◌<◌, length, map, position, string_bytes, IfSome};
-ghost use Rattle.std.specs.Str.{bytes_eq};
 ghost use Rattle.rina_stack.specs.Plan.{IsPlan};
 ghost use Rattle.rina_view.specs.Outcome.{TellsInput};
 ghost use Rattle.rina_promises.specs.Looking.{Looks, TellsPairs, TellsStack, TellsTable, TellsText, behind, command_of, dif_named, first_of, name_in};

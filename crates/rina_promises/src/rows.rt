@@ -1,5 +1,5 @@
 //! What a flow of a DIF promises in both directions.
-ghost use Rattle.std.specs.Prelude.{◌≡◌, ◌<◌, ◌++◌, ◌^◌, IfOk, IsSome};
+ghost use Rattle.std.specs.Prelude.{◌<◌, ◌^◌, IfOk, IsSome};
 ghost use Rattle.rina_data.specs.Configs.{cube_by};
 ghost use Rattle.rina_schedule.specs.Spelling.{Adds};
 ghost use Rattle.rina_tower.specs.Ranks.{seen_of};

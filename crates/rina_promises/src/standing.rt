@@ -1,7 +1,6 @@
 //! Where a DIF of a tower stands.
 ghost use Rattle.std.specs.Prelude.{◌≡◌, None, Some, IfSome, MatchOption};
 ghost use Rattle.rina_tower.specs.Ledgers.{dif_at, dif_of};
-ghost use Rattle.rina_tower.specs.Ranks.{below_of};
 ghost use Rattle.rina_tower.specs.Stands.{IsTower};
 ghost use Rattle.rina_promises.specs.Promises.{IsOwn, IsStanding};
 

@@ -1,6 +1,5 @@
 //! One queue, and what it holds.
-ghost use Rattle.std.specs.Prelude.{◌≡◌, ◌-◌, ◌<◌, ◌↔◌, [], ◌∷◌, ◌++◌, length, drop, slice_get, true, IsOk, OnOk, OnErr, IfErr, IfOk, option_copied};
-ghost use Rattle.circular_buffer.specs.Buffer.{buffer};
+ghost use Rattle.std.specs.Prelude.{◌≡◌, ◌-◌, ◌<◌, ◌↔◌, [], ◌∷◌, ◌++◌, length, drop, slice_get, true, IsOk, OnOk, OnErr, IfErr, IfOk};
 ghost use Rattle.rina_queue.specs.Queues.{emptied, waits, with_items, head_of};
 ghost use Rattle.rina_queue.specs.declared.queue.QueueFull.{QueueFull};
 

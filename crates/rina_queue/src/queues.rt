@@ -1,5 +1,5 @@
 //! The queues of all cubes and links.
-ghost use Rattle.std.specs.Prelude.{◌≡◌, ◌≢◌, ◌+◌, ◌-◌, ◌<◌, ◌≤◌, ◌↔◌, ◌==◌, [], ◌∷◌, ◌++◌, ℕ, length, map, min, take, drop, filter, None, IsNone, position, slice_get, slice_set, true, false, Some, IsSome, IfSome, IsOk, OnOk, OnErr, IfOk, IfErr, option_copied};
+ghost use Rattle.std.specs.Prelude.{◌≡◌, ◌≢◌, ◌+◌, ◌-◌, ◌<◌, ◌≤◌, ◌↔◌, ◌==◌, [], ◌∷◌, ◌++◌, ℕ, length, map, min, take, drop, filter, None, IsNone, position, slice_get, true, false, Some, IsSome, IfSome, IsOk, OnOk, OnErr, IfOk, IfErr, option_copied};
 ghost use Rattle.rina_policy.specs.Slots.{asked, count_of};
 ghost use Rattle.rina_queue.specs.Queues.{added, emptied, AllOfCubes, HaveRoom, has_link, is_queue, queue_place, waiting, waits, head_of, heads_of, head_at, first_in, with_items, no_queues, AreIds, IdsRise, Changes};
 ghost use Rattle.rina_queue.specs.declared.queue.Queue.{Queue};

@@ -4,9 +4,7 @@ ghost use Rattle.std.specs.List.{sum_by};
 ghost use Rattle.rina_data.specs.declared.process.IpcProcess.{IpcProcess};
 ghost use Rattle.rina_gen.specs.Input.{input};
 ghost use Rattle.rina_gen.specs.Text.{input_text};
-ghost use Rattle.rina_iface.specs.Seen.{Fac};
 ghost use Rattle.rina_tower.specs.Ranks.{seen_of};
-ghost use Rattle.rina_tower.specs.Stands.{IsTower};
 ghost use Rattle.rina_run.specs.Drawn.{HasManyFacilities, IsSummary, dif_offs, fac_failures, failures_in, has_failed, is_failed_app, is_got, is_refused, is_sent, line_total, offs_in};
 
 use crate::input::lines_behind_mark;

@@ -1,5 +1,5 @@
 //! Printing lines: single spaces, and one spelling of each field.
-ghost use Rattle.std.specs.Prelude.{◌≡◌, ◌∷◌, ◌++◌, [], true, IfOk};
+ghost use Rattle.std.specs.Prelude.{◌≡◌, ◌∷◌, [], true, IfOk};
 ghost use Rattle.std.specs.Fmt.{decimal};
 ghost use Rattle.rina_schedule.specs.Spelling.{Adds, spaced, spelling};
 ghost use Rattle.rina_schedule.specs.Printed.{flag_fields, setting_fields, want_fields, path_fields, event_word, event_fields, is_dif_word, names_no_app, line_text};

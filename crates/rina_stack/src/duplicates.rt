@@ -1,5 +1,5 @@
 //! Rule 5: no name stands twice.
-ghost use Rattle.std.specs.Prelude.{◌≡◌, ◌+◌, ◌*◌, ◌<◌, ◌≤◌, ◌++◌, length, map, IfOk, IfSome, OnOk, Ok, is_some};
+ghost use Rattle.std.specs.Prelude.{◌≡◌, ◌+◌, ◌*◌, ◌<◌, ◌++◌, length, map, IfOk, IfSome, OnOk, Ok, is_some};
 ghost use Rattle.rina_table.specs.Faults.{Gives};
 ghost use Rattle.rina_stack.specs.Rules.{duplicate_in, wire_names, dif_names, flow_labels, labels, owner_of, earlier, facility_duplicate, label_duplicate, duplicate_fault};
 

@@ -1,5 +1,5 @@
 //! The two ways to read a whole stack.
-ghost use Rattle.std.specs.Prelude.{◌≡◌, IfOk};
+ghost use Rattle.std.specs.Prelude.{IfOk};
 ghost use Rattle.toml.specs.View.{view};
 ghost use Rattle.rina_table.specs.Faults.{Gives};
 ghost use Rattle.rina_table.specs.Items.{sketch_at};

@@ -1,7 +1,7 @@
 //! What stands at the keys of a table, each value of its type (rule 3).
 ghost use Rattle.std.specs.Prelude.{◌≡◌, Ok, pos, map, option_map, ◌≢◌, IfErr};
 ghost use Rattle.std.specs.List.{list_all};
-ghost use Rattle.toml.specs.View.{view, array_view};
+ghost use Rattle.toml.specs.View.{view};
 ghost use Rattle.rina_table.specs.Faults.{Gives, required};
 ghost use Rattle.rina_table.specs.Keys.{list_of, items_in, items_at};
 ghost use Rattle.rina_table.specs.Values.{text_at, text_in, integer_at, integer_in, integer_or, truth_or, truth_in, items_or, element, has_third, is_table, tables_of, tables_in};

@@ -1,5 +1,5 @@
 //! Chains of ids: each id stands in one of them, or in none.
-ghost use Rattle.std.specs.Prelude.{◌≡◌, ◌≢◌, ℕ, ◌<◌, ◌≤◌, List, Option, None, length, replicate, slice_set, IfOk};
+ghost use Rattle.std.specs.Prelude.{◌≡◌, ◌≢◌, ℕ, ◌<◌, List, Option, None, length, replicate, slice_set, IfOk};
 ghost use Rattle.rina_timers.specs.Chains.{chain_of, tick_of, is_before, led_by, set_link, Within, IsMember, IsFirstSome, IsFirstChain, IsEarliestOf};
 
 use rina_base::{Memory, Tick};

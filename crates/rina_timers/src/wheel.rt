@@ -1,6 +1,5 @@
 //! A wheel of four levels of 64 slots, in which timers stand by their ticks.
-ghost use Rattle.std.specs.Prelude.{◌≡◌, ◌≢◌, ℕ, ◌+◌, ◌*◌, ◌<◌, ◌≤◌, Option, Some, None, length, MatchOption};
-ghost use Rattle.rina_timers.specs.Chains.{link};
+ghost use Rattle.std.specs.Prelude.{◌≡◌, ◌+◌, ◌*◌, ◌<◌, ◌≤◌, Option, Some, None, MatchOption};
 ghost use Rattle.rina_timers.specs.Times.{IsNoneBefore};
 ghost use Rattle.rina_timers.specs.Wheel.{slot, slot_start, reach, place, IsPlaced, IsPlacedBut, IsNextSlot, IsReached};
 

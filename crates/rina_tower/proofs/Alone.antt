@@ -5,7 +5,7 @@ use Rattle.std.proofs.lemmas.Option.{same_Some, slice_get_within}
 use Rattle.rina_base.specs.declared.number.Port.{Port}
 use Rattle.rina_iface.specs.declared.ends.End.{End}
 use Rattle.rina_iface.specs.Journal.{AreKept, At}
-use Rattle.rina_iface.specs.Later.{AnswersOne, AreLater, IsLater, IsLaterEnd}
+use Rattle.rina_iface.specs.Later.{AreLater, IsLater, IsLaterEnd}
 use Rattle.rina_iface.specs.Seen.{Fac, Offer, Seen, Stands, cube_in, end_of, largest_at, with_fac}
 use Rattle.rina_iface.proofs.Changed.{set_at}
 use Rattle.rina_iface.proofs.FarEnds.{answers_old, answers_on}

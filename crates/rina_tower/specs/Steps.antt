@@ -1,5 +1,5 @@
 -- What the steps of the DIFs do at rank r of a tower.
-use Rattle.std.specs.Prelude.{◌≡◌, ℕ, true, false, List, [], slice_get, Option, Some, None, Result, Err, OnErr}
+use Rattle.std.specs.Prelude.{◌≡◌, ℕ, false, List, [], slice_get, Option, Some, None, Result, Err, OnErr}
 use Rattle.rina_base.specs.declared.number.Port.{Port}
 use Rattle.rina_iface.specs.declared.error.SendError.{SendError}
 use Rattle.rina_iface.specs.Free.{FreesAsSeen}

@@ -1,5 +1,5 @@
 //! The DIFs of a rank.
-ghost use Rattle.std.specs.Prelude.{◌≡◌, ◌≤◌, ℕ, [], ◌∷◌, ◌++◌, length, slice_get, Some, None, OnOk, OnErr, MatchOption};
+ghost use Rattle.std.specs.Prelude.{◌≡◌, [], ◌∷◌, ◌++◌, length, slice_get, Some, None, OnOk, OnErr, MatchOption};
 ghost use Rattle.rina_tower.specs.MemoryFailure.{have_failed};
 
 mod calls;

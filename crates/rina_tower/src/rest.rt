@@ -1,5 +1,5 @@
 //! The clock of a tower in which nothing happens.
-ghost use Rattle.std.specs.Prelude.{◌≡◌, ◌+◌, ◌<◌, ◌≤◌, true};
+ghost use Rattle.std.specs.Prelude.{◌+◌, ◌<◌, ◌≤◌};
 ghost use Rattle.rina_tower.specs.Ranks.{now_of};
 ghost use Rattle.rina_tower.specs.Resting.{IsAtTick, RestsUntil, WiresRestUntil};
 ghost use Rattle.rina_tower.specs.Stands.{IsTower};

@@ -3,7 +3,7 @@ ghost use Rattle.std.specs.Prelude.{◌≡◌, true, false, Err};
 ghost use Rattle.rina_wire.specs.declared.tick.TickError.TheVariants.{Memory};
 ghost use Rattle.rina_tower.specs.Bystanders.{Anyone, Leaves};
 ghost use Rattle.rina_tower.specs.MemoryFailure.{has_failed};
-ghost use Rattle.rina_tower.specs.Ranks.{height_of, now_of, seen_of};
+ghost use Rattle.rina_tower.specs.Ranks.{height_of, seen_of};
 ghost use Rattle.rina_tower.specs.Stands.{IsTower};
 ghost use Rattle.rina_tower.specs.ClockTick.{Ticks};
 

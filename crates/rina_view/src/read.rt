@@ -1,5 +1,5 @@
 //! Reading the notes of a run.
-ghost use Rattle.std.specs.Prelude.{◌≡◌, ◌≤◌, length, map, IfOk};
+ghost use Rattle.std.specs.Prelude.{◌≡◌, ◌≤◌, length, map};
 ghost use Rattle.rina_base.specs.Traverse.{traverse};
 ghost use Rattle.rina_view.specs.Reading.{unread_at, note_in, notes_in, Gives};
 

@@ -1,5 +1,5 @@
 //! What became of an SDU, in words.
-ghost use Rattle.std.specs.Prelude.{◌≡◌, ◌∷◌, ◌++◌, codes, option_and_then, option_map, slice_get};
+ghost use Rattle.std.specs.Prelude.{◌≡◌, ◌++◌, codes, option_and_then, option_map, slice_get};
 ghost use Rattle.std.specs.Fmt.{decimal};
 ghost use Rattle.rina_schedule.specs.Spelling.{Adds};
 ghost use Rattle.rina_report.specs.Values.{flow_text, num_text, port_text, truth_text};

@@ -1,14 +1,12 @@
 -- What the charges of the hops, and the waiting, leave of a lifetime.
-use Rattle.std.proofs.Common.{◌≡◌, ℕ, ◌+◌, ◌-◌, ◌^◌, ◌<◌, ◌≤◌, Bool, true, false, cond, min, List, [], ◌∷◌, refl, sym, ap, subst, ◌∙◌, inl, inr, ◌⊎◌, arith}
+use Rattle.std.proofs.Common.{◌≡◌, ℕ, ◌+◌, ◌-◌, ◌^◌, ◌<◌, ◌≤◌, Bool, true, false, cond, min, List, ◌∷◌, subst, inl, inr, ◌⊎◌, arith}
 use Rattle.std.specs.Prelude.{nat_le}
 use Rattle.std.specs.List.{sum_by}
 use Rattle.std.proofs.lemmas.Bool.Decides.{leb_tells}
 use Rattle.std.proofs.lemmas.List.Sums.{sum_by-cons}
-use Rattle.rina_data.specs.Outgoing.{charge_of}
 use Rattle.rina_way.specs.declared.hop.Hop.{Hop}
-use Rattle.rina_way.specs.declared.slack.Slack.{Slack}
 use Rattle.rina_way.specs.declared.slack.Slack.TheVariants.{Left, Short}
-use Rattle.rina_way.specs.Journeys.{Fate, Foretells, LetsGo, TakesIn, Travels, WritesOffIn, WritesOffOut, arrived, expired, gone, late_in, late_out, taken}
+use Rattle.rina_way.specs.Journeys.{Fate, Foretells, LetsGo, Travels, WritesOffOut, arrived, expired, gone, late_in, late_out, taken}
 use Rattle.rina_way.specs.Ways.{charges, slack_of}
 
 -- in ticks: what is charged and waited is within the lifetime, and the rest is left; or it is more

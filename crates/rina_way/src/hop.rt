@@ -1,6 +1,5 @@
 //! One hop of a way: the next hop of an IPC process, and what it charges.
 ghost use Rattle.std.specs.Prelude.{◌≡◌, ◌==◌, ◌<◌, length, option_map, find, position, IfSome};
-ghost use Rattle.std.specs.Str.{bytes_eq};
 ghost use Rattle.rina_data.specs.declared.settings.Member.{Member};
 ghost use Rattle.rina_way.specs.Ways.{address, far_node, home, hop_at, hop_over, link_to, member_named, process_at};
 

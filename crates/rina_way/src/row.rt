@@ -1,5 +1,5 @@
 //! What a flow promises, and whether its way lets a PDU keep it.
-ghost use Rattle.std.specs.Prelude.{◌≡◌, ◌<◌, List, length, option_map, None, Some, IfOk, IfSome};
+ghost use Rattle.std.specs.Prelude.{◌≡◌, ◌<◌, option_map, None, Some, IfOk, IfSome};
 ghost use Rattle.rina_data.specs.Configs.{cube_by};
 ghost use Rattle.rina_way.specs.Ways.{Finds, IsRow, piece_size, pieces, trip};
 

@@ -1,16 +1,15 @@
 //! One wire.
-ghost use Rattle.std.specs.Prelude.{◌≡◌, ◌+◌, ◌<◌, ◌≤◌, ◌∷◌, [], length, slice_get, find, option_map, remove, OnOk, OnErr, IfOk, IfSome, IsTrue, ◌↔◌, MatchOption, Some, None, ◌^◌};
+ghost use Rattle.std.specs.Prelude.{◌≡◌, ◌<◌, ◌≤◌, ◌∷◌, [], length, slice_get, find, option_map, remove, OnOk, OnErr, IfSome, IsTrue, ◌↔◌, MatchOption, Some, None, ◌^◌};
 ghost use Rattle.rina_iface.specs.declared.ends.End.{End};
 ghost use Rattle.rina_iface.specs.declared.state.PortState.TheVariants.{Allocated};
 ghost use Rattle.rina_iface.specs.Ends.{end_in, place_in};
 ghost use Rattle.rina_iface.specs.Seen.{is_member, is_registered, meets, oldest_in};
 ghost use Rattle.rina_wire.specs.Air.{offer_of};
-ghost use Rattle.rina_wire.specs.Allocate.{flow_made, flow_on, is_allocated, is_busy, other_node, port_on};
+ghost use Rattle.rina_wire.specs.Allocate.{is_busy, other_node};
 ghost use Rattle.rina_wire.specs.Claim.{claim_in, without};
 ghost use Rattle.rina_wire.specs.Plan.{line_of};
 ghost use Rattle.rina_wire.specs.Register.{named};
 ghost use Rattle.rina_wire.specs.Unregister.{unnamed};
-ghost use Rattle.rina_wire.specs.Send.{mate, passed_at, sent_from};
 
 mod cut;
 mod disturb;

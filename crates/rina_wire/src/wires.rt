@@ -1,5 +1,5 @@
 //! All wires.
-ghost use Rattle.std.specs.Prelude.{◌≡◌, ◌+◌, ◌<◌, ◌≤◌, length, slice_get, map, IfOk, MatchOption};
+ghost use Rattle.std.specs.Prelude.{◌≡◌, ◌<◌, map, IfOk, MatchOption};
 ghost use Rattle.rina_wire.specs.Air.{end_at, failed_air, seen_of};
 ghost use Rattle.rina_wire.specs.Plan.{IsSoundPlan, air_of, line_of};
 ghost use Rattle.rina_wire.specs.Sound.{IsSound};

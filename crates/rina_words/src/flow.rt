@@ -1,12 +1,11 @@
 //! The words on flows: each calls the tower, and says what it answered.
-ghost use Rattle.std.specs.Prelude.{◌≡◌, ◌∷◌, ◌++◌, [], None, Some, true, option_map, IfOk, OnErr, OnOk};
+ghost use Rattle.std.specs.Prelude.{◌≡◌, ◌∷◌, ◌++◌, [], None, Some, true, IfOk, OnErr, OnOk};
 ghost use Rattle.rina_words.specs.Step.{Registering, Allocating, Accepting, Sending, CallsRegister, CallsAllocate, CallsIncoming, CallsSend, port_answer, label_of, asked};
 ghost use Rattle.rina_stack.specs.Plan.{IsPlan};
 ghost use Rattle.rina_tower.specs.Stands.{IsTower};
 ghost use Rattle.rina_notes.specs.Copying.{copies_drawn};
 ghost use Rattle.rina_notes.specs.Look.{state_at};
 ghost use Rattle.rina_notes.specs.Sites.{label_in, port_in, site_at};
-ghost use Rattle.rina_tower.specs.Applications.{AppClaims};
 ghost use Rattle.rina_words.specs.Wanting.{HasFailed, WantsAt, WantsLabel, WantsOn, WantsToAccept, WantsToSend};
 
 use crate::run::Run;

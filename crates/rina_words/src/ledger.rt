@@ -1,5 +1,5 @@
 //! The word `ledger`.
-ghost use Rattle.std.specs.Prelude.{◌≡◌, ◌++◌, ◌∷◌, [], map, IfOk, OnOk, OnErr, option_map, List};
+ghost use Rattle.std.specs.Prelude.{◌≡◌, ◌++◌, OnOk, OnErr, option_map, List};
 ghost use Rattle.std.specs.Borrow.{Bor};
 ghost use Rattle.rina_account.specs.declared.ledger.Off.{Off};
 ghost use Rattle.std.specs.List.{flat_map};
@@ -7,7 +7,7 @@ ghost use Rattle.rina_stack.specs.Plan.{IsPlan};
 ghost use Rattle.rina_tower.specs.Stands.{IsTower};
 ghost use Rattle.rina_notes.specs.Look.{Leads, Extends, noted};
 ghost use Rattle.rina_notes.specs.Sites.{dif_site_at};
-ghost use Rattle.rina_words.specs.Step.{Accounting, ledger_notes, off_notes};
+ghost use Rattle.rina_words.specs.Step.{Accounting, ledger_notes};
 ghost use Rattle.rina_notes.specs.StepTold.{off_told};
 
 use crate::run::Run;

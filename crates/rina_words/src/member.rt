@@ -1,6 +1,6 @@
 //! The words on members: `publish` registers an IPC process at the rank below, `enrol` lets one ask to join at another, and `member` tells the
 //! state of one.
-ghost use Rattle.std.specs.Prelude.{◌≡◌, IfOk, IsSome, MatchOption, OnErr};
+ghost use Rattle.std.specs.Prelude.{◌≡◌, IfOk, IsSome, OnErr};
 ghost use Rattle.rina_stack.specs.Plan.{IsPlan};
 ghost use Rattle.rina_tower.specs.Stands.{IsTower};
 ghost use Rattle.rina_notes.specs.Sites.{dif_site_at, fac_named};

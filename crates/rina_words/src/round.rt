@@ -3,10 +3,9 @@ ghost use Rattle.std.specs.Prelude.{◌≡◌, IfOk, OnErr, OnOk};
 ghost use Rattle.rina_stack.specs.Plan.{IsPlan};
 ghost use Rattle.rina_tower.specs.Ranks.{now_of};
 ghost use Rattle.rina_tower.specs.Stands.{IsTower};
-ghost use Rattle.rina_notes.specs.Look.{Leads, Extends};
 ghost use Rattle.rina_notes.specs.Sites.{dif_site_at};
-ghost use Rattle.rina_words.specs.Step.{CallsOut, HasNames, LettingOut, RoundsBy, RoundsOnce, link_of, stage};
-ghost use Rattle.rina_words.specs.Wanting.{HasFailed, WantsAt, WantsToLetOut};
+ghost use Rattle.rina_words.specs.Step.{CallsOut, HasNames, LettingOut, RoundsBy, stage};
+ghost use Rattle.rina_words.specs.Wanting.{WantsAt, WantsToLetOut};
 
 use crate::dif::link_number;
 use crate::run::Run;

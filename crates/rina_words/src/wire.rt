@@ -1,5 +1,5 @@
 //! The words on wires: each calls the tower, and says what it answered.
-ghost use Rattle.std.specs.Prelude.{◌≡◌, IfOk, OnErr};
+ghost use Rattle.std.specs.Prelude.{IfOk, OnErr};
 ghost use Rattle.rina_stack.specs.Plan.{IsPlan};
 ghost use Rattle.rina_tower.specs.Events.{Cuts, HoldsBack, Loses, Mends, Repeats};
 ghost use Rattle.rina_tower.specs.Stands.{IsTower};

@@ -1,5 +1,5 @@
 //! Printing a word and what it names.
-ghost use Rattle.std.specs.Prelude.{◌≡◌, ◌∷◌, []};
+ghost use Rattle.std.specs.Prelude.{◌∷◌, []};
 ghost use Rattle.std.specs.Fmt.{decimal};
 ghost use Rattle.rina_schedule.specs.Spelling.{Adds, spaced, spelling};
 ghost use Rattle.rina_report.specs.Values.{num_text, port_text, key_fields};

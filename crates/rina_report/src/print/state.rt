@@ -1,5 +1,4 @@
 //! Printing the states of ports and members.
-ghost use Rattle.std.specs.Prelude.{◌≡◌};
 ghost use Rattle.rina_schedule.specs.Spelling.{Adds, spaced};
 ghost use Rattle.rina_report.specs.States.{why_fields, fail_fields, state_fields, member_fields};
 

@@ -1,5 +1,4 @@
 //! Printing the results of single steps.
-ghost use Rattle.std.specs.Prelude.{◌≡◌};
 ghost use Rattle.rina_schedule.specs.Spelling.{Adds, spaced};
 ghost use Rattle.rina_report.specs.Steps.{took_fields, clock_fields};
 

@@ -1,7 +1,7 @@
 //! Reading the last fields of a line. Each function reads from field `n` on, and checks that the line ends there.
-ghost use Rattle.std.specs.Prelude.{◌≡◌, ◌≢◌, ◌<◌, IfErr, IsOk, IsSome};
+ghost use Rattle.std.specs.Prelude.{◌≡◌, ◌≢◌, ◌<◌, IfErr, IsOk};
 ghost use Rattle.rina_schedule.specs.Gives.{Gives};
-ghost use Rattle.rina_schedule.specs.Fields.{next_of, field_at};
+ghost use Rattle.rina_schedule.specs.Fields.{field_at};
 ghost use Rattle.rina_schedule.specs.Shared.{last_name_at, last_number_at, last_numbers_at, last_bytes_at};
 
 use crate::error::LineError;

@@ -1,5 +1,5 @@
 //! Reading the words about the clock.
-ghost use Rattle.std.specs.Prelude.{◌≡◌, ◌≢◌, IfErr};
+ghost use Rattle.std.specs.Prelude.{◌≢◌, IfErr};
 ghost use Rattle.rina_schedule.specs.Gives.{Gives};
 ghost use Rattle.rina_schedule.specs.WireWords.{tick_at, round_at};
 

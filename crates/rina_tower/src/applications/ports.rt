@@ -2,7 +2,6 @@
 ghost use Rattle.std.specs.Prelude.{◌≡◌, true, false, Err};
 ghost use Rattle.rina_iface.specs.declared.error.FreeError.TheVariants as free;
 ghost use Rattle.rina_iface.specs.declared.error.SendError.TheVariants as send;
-ghost use Rattle.rina_iface.specs.Seen.{unpassed};
 ghost use Rattle.rina_tower.specs.declared.applications.AppError.TheVariants.{Call};
 ghost use Rattle.rina_tower.specs.Applications.{Answers, AppFrees, AppPasses, AppSends, CanPass, is_ipc_at};
 ghost use Rattle.rina_tower.specs.Bystanders.{IsIpc, LeavesNow};

@@ -1,5 +1,5 @@
 //! The places of the steps at the DIFs of a rank.
-ghost use Rattle.std.specs.Prelude.{◌≡◌, ℕ, ◌++◌, map, slice_get, Some, OnOk};
+ghost use Rattle.std.specs.Prelude.{◌≡◌, ◌++◌, map, OnOk};
 ghost use Rattle.rina_dif.specs.declared.dif.Dif.{Dif};
 ghost use Rattle.rina_tower.specs.Rounds.{AreNumbered, dif_links, link_place, live_links, member_place, rank_links, rank_members};
 

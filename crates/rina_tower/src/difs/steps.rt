@@ -1,5 +1,5 @@
 //! The steps of the DIFs of a rank, over any facility below.
-ghost use Rattle.std.specs.Prelude.{◌≡◌, length, map, slice_get, true, Some, Err};
+ghost use Rattle.std.specs.Prelude.{◌≡◌, map, true, Some, Err};
 ghost use Rattle.rina_iface.specs.Free.{FreesAsSeen};
 ghost use Rattle.rina_iface.specs.Pass.{PassesAsSeen};
 ghost use Rattle.rina_iface.specs.Send.{SendsAsSeen};

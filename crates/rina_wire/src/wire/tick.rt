@@ -1,5 +1,5 @@
 //! One tick of a wire.
-ghost use Rattle.std.specs.Prelude.{◌≡◌, [], OnOk, OnErr, slice_get};
+ghost use Rattle.std.specs.Prelude.{◌≡◌, [], OnOk, OnErr};
 ghost use Rattle.rina_wire.specs.Tick.{IsPart, arrived, line_ticked, looked};
 
 use super::Wire;

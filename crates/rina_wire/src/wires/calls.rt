@@ -1,7 +1,6 @@
 //! What each call does, exactly.
-ghost use Rattle.std.specs.Prelude.{◌≡◌, ◌≢◌, ◌<◌, ◌≤◌, ◌+◌, ◌^◌, All, IsSome, IsSomeAnd, IfSome, Some, None, length, slice_get, option_and_then};
-ghost use Rattle.rina_iface.specs.declared.ends.End.{End};
-ghost use Rattle.rina_wire.specs.Air.{Line, end_at, wire_at};
+ghost use Rattle.std.specs.Prelude.{◌≡◌, ◌≢◌, ◌<◌, ◌≤◌, All, IsSome, IsSomeAnd, IfSome, Some, None};
+ghost use Rattle.rina_wire.specs.Air.{Line, wire_at};
 ghost use Rattle.rina_wire.specs.Allocate.{AllocatesOn, allocate_refusal, flow_refusal};
 ghost use Rattle.rina_wire.specs.Bind.{BindsOn};
 ghost use Rattle.rina_wire.specs.Claim.{ClaimsOn};

@@ -1,6 +1,6 @@
 //! Wires as facilities.
-ghost use Rattle.std.specs.Prelude.{◌≡◌, ◌≤◌, ℕ, true, Option, Some, None, IsSome, MatchOption, List, length, slice_get, option_map, option_and_then};
-ghost use Rattle.rina_iface.specs.Seen.{Fac, unpassed};
+ghost use Rattle.std.specs.Prelude.{◌≡◌, true, Option, Some, None, IsSome};
+ghost use Rattle.rina_iface.specs.Seen.{unpassed};
 ghost use Rattle.rina_iface.specs.Later.{IsLater};
 ghost use Rattle.rina_iface.specs.Register.{Registers};
 ghost use Rattle.rina_iface.specs.Allocate.{Allocates};

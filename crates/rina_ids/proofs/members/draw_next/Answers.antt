@@ -1,4 +1,4 @@
-use Rattle.std.proofs.Common.{◌≡◌, ◌∙◌, ◌≤◌, Some, sym}
+use Rattle.std.proofs.Common.{◌∙◌, Some, sym}
 use Rattle.rina_ids.proofs.Drawing.{free_within}
 use Rattle.rina_ids.proofs.members.draw_next.Goals as goal
 

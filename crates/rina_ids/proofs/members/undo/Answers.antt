@@ -1,5 +1,4 @@
-use Rattle.std.proofs.Common.{◌≡◌, ◌∙◌, ap}
-use Rattle.rina_ids.specs.Members.{CepIds, IsDrawn}
+use Rattle.std.proofs.Common.{◌∙◌}
 use Rattle.rina_ids.proofs.Drawing.{has_drawn, undone_one}
 use Rattle.rina_ids.proofs.members.undo.Goals as goal
 

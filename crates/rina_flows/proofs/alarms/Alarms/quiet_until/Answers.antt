@@ -1,4 +1,4 @@
-use Rattle.std.proofs.Common.{◌≡◌, ℕ, ◌-◌, ◌^◌, ◌≤◌, [], List, Option, length, sym, ap, subst, arith}
+use Rattle.std.proofs.Common.{◌≡◌, ℕ, ◌-◌, ◌≤◌, [], List, Option, length, sym, ap, subst, arith}
 use Rattle.rina_flows.specs.Alarms.{tick_at, times_of}
 use Rattle.rina_flows.proofs.Alarmed.{none_least, unset_past}
 use Rattle.rina_flows.proofs.alarms.Alarms.quiet_until.Goals as goal

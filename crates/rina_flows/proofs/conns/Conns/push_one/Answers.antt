@@ -1,4 +1,4 @@
-use Rattle.std.proofs.Common.{◌≡◌, ◌+◌, List, [], ◌∷◌, ◌++◌, length, refl, sym, subst, arith}
+use Rattle.std.proofs.Common.{◌≡◌, List, length, sym, subst, arith}
 use Rattle.rina_conn.specs.declared.conn.Conn.{Conn}
 use Rattle.rina_flows.specs.Quiet.{AreTimed}
 use Rattle.rina_flows.specs.Watching.{Notes}

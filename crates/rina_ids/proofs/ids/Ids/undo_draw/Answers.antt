@@ -1,4 +1,4 @@
-use Rattle.std.proofs.Common.{◌≡◌, ◌∙◌, ℕ, ◌-◌, ◌≤◌, List, length, slice_set, None, Option, Some, ap, subst, sym}
+use Rattle.std.proofs.Common.{◌∙◌, ◌-◌, ◌≤◌, List, length, None, Option, Some, ap, subst, sym}
 use Rattle.rina_ids.specs.declared.slot.Slot.{Slot}
 use Rattle.rina_ids.specs.declared.slot.Slot.TheVariants.{InUse}
 use Rattle.rina_ids.specs.Ids.{HasDrawn}

@@ -1,4 +1,3 @@
-use Rattle.std.proofs.Common.{◌≡◌, ap}
 use Rattle.rina_ids.proofs.Drawing.{draw_at}
 use Rattle.rina_ids.proofs.members.MemberIds.draw.Goals as goal
 

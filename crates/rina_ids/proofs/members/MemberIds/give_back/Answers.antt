@@ -1,6 +1,4 @@
-use Rattle.std.proofs.Common.{◌≡◌, ◌∙◌, ◌+◌, List, Some, ap, slice_set, sym}
-use Rattle.rina_ids.specs.Ids.{given_back}
-use Rattle.rina_ids.specs.Members.{CepIds}
+use Rattle.std.proofs.Common.{◌+◌}
 use Rattle.rina_ids.proofs.Drawing.{gave_at, read_at}
 use Rattle.rina_ids.proofs.members.MemberIds.give_back.Goals as goal
 

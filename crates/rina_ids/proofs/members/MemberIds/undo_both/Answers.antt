@@ -1,4 +1,4 @@
-use Rattle.std.proofs.Common.{◌≡◌, List, subst, sym}
+use Rattle.std.proofs.Common.{List, subst, sym}
 use Rattle.rina_ids.specs.Members.{CepIds, IsDrawnAt}
 use Rattle.rina_ids.proofs.members.MemberIds.undo_both.Goals as goal
 

@@ -1,4 +1,3 @@
-use Rattle.std.proofs.Common.{◌≡◌, ap}
 use Rattle.rina_ids.proofs.Drawing.{undo_at, undo_may}
 use Rattle.rina_ids.proofs.members.MemberIds.undo_draw.Goals as goal
 
