@@ -5,11 +5,17 @@
     python3 make_input.py B N [LOSE]     chain of 6 nodes, reliable flow over 5 hops;
                                          the middle wire loses LOSE of 1000 frames (50)
     python3 make_input.py C N RANKS      two nodes, a tower of 1 to 8 static DIFs
+    python3 make_input.py I N IDLE       as A, beside IDLE flows that send nothing (249 at most)
+    python3 make_input.py R N MEMBERS FLOWS
+                                         a ring of MEMBERS nodes, a wire and a link between each and the next, and FLOWS
+                                         datagram flows, each over half of the ring; the first one sends
+    python3 make_input.py M N            two nodes, one wire, a static DIF in which N flows are allocated one after the other
     python3 make_input.py E N CHILDREN   N members of a DIF that is not static enrol, one behind the other, each over
                                          a wire of its own at one that has CHILDREN others at most (1: a chain)
 
-W, A, B and C send and read N SDUs of 80 zero bytes: W, A and C send 64 and then tick once and read;
-B sends 2 in two ticks and reads after 16. E sends none: the members tell each other their items alone.
+W, A, B, C, I and R send and read N SDUs of 80 zero bytes: W, A, C and I send 64 and then tick once and read, R ticks once for
+each link of the way; B sends 2 in two ticks and reads after 16. M and E send none: M asks for flows, and in E the members tell
+each other their items.
 """
 import sys
 
@@ -21,7 +27,7 @@ LIFE = 4
 MAX_INPUT = 16_777_216            # what rlemu reads
 
 
-def dif(name, rank, pdu, queue, mpl, cube, members, links, flow):
+def dif(name, rank, pdu, queue, mpl, cube, members, links, flow, widths=WIDTHS):
     """One static DIF as lines of TOML."""
     manage_r = 400
     lines = [
@@ -30,7 +36,7 @@ def dif(name, rank, pdu, queue, mpl, cube, members, links, flow):
         f"rank = {rank}",
         "static = true",
         f"pdu = {pdu}",
-        f"widths = {WIDTHS}",
+        f"widths = {widths}",
         f"queue = {queue}",
         'policy = "strict"',
         "wait = 2000",
@@ -58,20 +64,42 @@ def wire(name, a, b, lose=0):
     return lines
 
 
-def flow(cube, a, b):
-    return (f'{{ cube = {cube}, from = {{ node = "{a}", app = "s", label = "p" }}, '
-            f'to = {{ node = "{b}", app = "t", label = "q" }} }}')
+def flow(cube, a, b, k=""):
+    return (f'{{ cube = {cube}, from = {{ node = "{a}", app = "s{k}", label = "p{k}" }}, '
+            f'to = {{ node = "{b}", app = "t{k}", label = "q{k}" }} }}')
 
 
 def stack_w():
     return ['nodes = ["a", "b"]'] + wire("w", "a", "b")
 
 
-def stack_a():
+def stack_a(idle=0):
     cube = f'{{ id = 1, kind = "datagram", mpl = 40, window = 64, largest = {SDU} }}'
+    flows = ", ".join([flow(1, "a", "b")] + [flow(1, "a", "b", k) for k in range(idle)])
     return (['nodes = ["a", "b"]'] + wire("w", "a", "b")
             + dif("d", 1, SDU + PCI + LIFE, 64, 40, cube, [("a", 1), ("b", 2)],
-                  ['{ on = "w", a = "a", b = "b" }'], flow(1, "a", "b")))
+                  ['{ on = "w", a = "a", b = "b" }'], flows))
+
+
+def stack_r(members, count):
+    """The k-th flow goes from the k-th node, counted around, to the one that is half of the ring further."""
+    names = [f"n{k}" for k in range(members)]
+    lines = ["nodes = [" + ", ".join(f'"{name}"' for name in names) + "]"]
+    for k in range(members):
+        lines += wire(f"w{k}", names[k], names[(k + 1) % members])
+    cube = f'{{ id = 1, kind = "datagram", mpl = 200, window = 64, largest = {SDU} }}'
+    links = [f'{{ on = "w{k}", a = "{names[k]}", b = "{names[(k + 1) % members]}" }}' for k in range(members)]
+    ends = [(names[k % members], names[(k + members // 2) % members]) for k in range(count)]
+    flows = ", ".join(flow(1, *each, k or "") for k, each in enumerate(ends))
+    return lines + dif("d", 1, SDU + PCI + LIFE, 64, 200, cube, [(name, k + 1) for k, name in enumerate(names)], links, flows)
+
+
+def stack_m():
+    cube = f'{{ id = 1, kind = "datagram", mpl = 40, window = 64, largest = {SDU} }}'
+    # (the messages about flows are longer than such an SDU, and ids are drawn once)
+    widths = WIDTHS.replace("cep = 1", "cep = 2")
+    return (['nodes = ["a", "b"]'] + wire("w", "a", "b")
+            + dif("d", 1, 400, 64, 40, cube, [("a", 1), ("b", 2)], ['{ on = "w", a = "a", b = "b" }'], None, widths))
 
 
 def stack_b(lose):
@@ -126,14 +154,14 @@ def stack_e(n, children):
     ]
 
 
-def schedule_batches(n, batch=64):
-    """A and C: a batch is sent, crosses the wire in one tick, and is read."""
+def schedule_batches(n, batch=64, ticks=1):
+    """A batch is sent, crosses each wire of its way in one tick, and is read."""
     done = 0
     while done < n:
         k = min(batch, n - done)
         for _ in range(k):
             yield f"send p z{SDU}"
-        yield "tick 1"
+        yield f"tick {ticks}"
         yield "read q"
         done += k
 
@@ -153,6 +181,18 @@ def schedule_paced(n, per_send=2, per_read=16):
     yield "read q"
 
 
+def schedule_allocations(n):
+    """M: the ask crosses the wire in one tick, and so does the answer."""
+    yield "register d b t"
+    yield "tick 2"
+    for k in range(n):
+        yield f"alloc p{k} d a s t"
+        yield "tick 1"
+        yield f"accept q{k} d b t"
+        yield "tick 1"
+        yield f"state p{k}"
+
+
 def schedule_enrolments(n, children):
     """E: an enrolment takes four ticks; what the others are told of it goes on while the next ones enrol."""
     for k in range(1, n):
@@ -169,7 +209,7 @@ def schedule_enrolments(n, children):
 
 def main():
     words = sys.argv[1:]
-    if len(words) < 2 or words[0] not in ("W", "A", "B", "C", "E"):
+    if len(words) < 2 or words[0] not in ("W", "A", "B", "C", "E", "I", "M", "R"):
         sys.exit(__doc__)
     what, n = words[0], int(words[1])
     if what == "W":
@@ -180,6 +220,12 @@ def main():
         stack, lines = stack_a(), schedule_batches(n)
     elif what == "B":
         stack, lines = stack_b(int(words[2]) if len(words) > 2 else 50), schedule_paced(n)
+    elif what == "I":
+        stack, lines = stack_a(int(words[2])), schedule_batches(n)
+    elif what == "R":
+        stack, lines = stack_r(int(words[2]), int(words[3])), schedule_batches(n, ticks=int(words[2]) // 2)
+    elif what == "M":
+        stack, lines = stack_m(), schedule_allocations(n)
     elif what == "E":
         children = int(words[2]) if len(words) > 2 else 1
         stack, lines = stack_e(n, children), schedule_enrolments(n, children)

@@ -1,12 +1,13 @@
-"""Measures two programs on the scenarios of make_input.py, and prints a table; then rlemu alone on enrolments, and prints a second one.
+"""Measures two programs on the scenarios of make_input.py, and prints a table; then rlemu alone beside idle flows, on allocations and on
+enrolments, and prints a table for each.
 
     python3 measure.py RLEMU PLAIN MAKE_INPUT WORK_FOLDER
 
 Instructions are counted by valgrind's callgrind at 1,000 and 3,000 SDUs, and the difference divided by 2,000, so
-that the start counts for nothing. Seconds and peak memory are those of one run at 10,000 and at 100,000 SDUs.
+that the start counts for nothing. Seconds and peak memory are those of one run at 10,000, 100,000 and 1,000,000 SDUs.
 
-The instructions, seconds and memory of enrolments are those of whole runs. Each run is looked at before: the last member has to be enrolled, and the
-first and the last have to keep the items of all members.
+The instructions, seconds and memory of allocations and enrolments are those of whole runs. Each run is looked at before: each flow has to be allocated
+at both ends; the last member has to be enrolled, and the first and the last have to keep the items of all members.
 """
 import os
 import re
@@ -21,7 +22,23 @@ SCENARIOS = [
     ("five hops, reliable, no loss", ["B", "0"], ["B", "0"]),
     ("five hops, reliable, 5 % loss", ["B", "50"], ["B", "50"]),
     ("four ranks", ["C", "4"], ["C", "4"]),
+    ("eight ranks", ["C", "8"], ["C", "8"]),
 ]
+COUNTS = (10_000, 100_000, 1_000_000)
+
+NONE = [None] * (1 + 2 * len(COUNTS))
+
+# Flows of one DIF, of which one sends.
+IDLE = [
+    ("two members, no idle flow", ["I", "0"]),
+    ("- 64 idle flows", ["I", "64"]),
+    ("- 249 idle flows", ["I", "249"]),
+    ("a ring of 16 members, no idle flow", ["R", "16", "1"]),
+    ("- 31 idle flows", ["R", "16", "32"]),
+]
+
+# How many flows are allocated in one run.
+FLOWS = (250, 500, 1000)
 
 # The shapes of a DIF that grows: how many others enrol at one member at most.
 SHAPES = [("chain", "1"), ("tree", "8")]
@@ -55,15 +72,55 @@ def instructions(command, path, work):
 
 
 def measured(command, make, work, words):
-    """Instructions for one more SDU, then seconds and MiB at 10,000 and 100,000; None where it does not run."""
+    """Instructions for one more SDU, then seconds and MiB at each of the counts; None where it does not run."""
     if status(command, input_of(make, work, words, 10))[0] != 0:
         return None
-    few, many = (instructions(command, input_of(make, work, words, n), work) for n in (1000, 3000))
-    row = [(many - few) / 2000]
-    for count in (10_000, 100_000):
-        _, seconds, peak = status(command, input_of(make, work, words, count))
+    row = [one_more(command, make, work, words)]
+    for count in COUNTS:
+        path = input_of(make, work, words, count)
+        _, seconds, peak = status(command, path)
+        os.remove(path)
         row += [seconds, peak]
     return row
+
+
+def one_more(command, make, work, words):
+    """The instructions for one more SDU."""
+    few, many = (instructions(command, input_of(make, work, words, n), work) for n in (1000, 3000))
+    return (many - few) / 2000
+
+
+def idle_flows(command, make, work):
+    """Prints for each scenario with idle flows the instructions for one more SDU, and the seconds of 100,000."""
+    print("| scenario | instructions for one more SDU | s at 100,000 |")
+    print("|---|---|---|")
+    for name, words in IDLE:
+        count = one_more(command, make, work, words)
+        _, seconds, _ = status(command, input_of(make, work, words, 100_000))
+        print(f"| {name} | {count:,.0f} | {seconds:.2f} |", flush=True)
+
+
+def are_allocated(command, path, flows):
+    """Whether the run ends well, with each flow allocated at both ends."""
+    with open(path, "rb") as f:
+        done = subprocess.run(command, stdin=f, stdout=subprocess.PIPE, stderr=subprocess.DEVNULL, text=True)
+    return done.returncode == 0 and done.stdout.count(" ok allocated\n") == 2 * flows
+
+
+def allocations(command, make, work):
+    """Prints for each number of flows the instructions of a run, behind them how many times those of half as many, seconds and MiB."""
+    print("| flows allocated | instructions | s | MiB |")
+    print("|---|---|---|---|")
+    before = None
+    for flows in FLOWS:
+        path = input_of(make, work, ["M"], flows)
+        if not are_allocated(command, path, flows):
+            print(f"| {flows} | - | - | - |")
+            continue
+        _, seconds, peak = status(command, path)
+        count = instructions(command, path, work)
+        print(f"| {flows:,} | {cell(count, before, '{:,}')} | {seconds:.2f} | {peak:.0f} |", flush=True)
+        before = count
 
 
 def is_grown(command, path, members):
@@ -103,19 +160,20 @@ def cell(value, other, form):
 def main():
     rlemu, plain, make, work = sys.argv[1:]
     resource.setrlimit(resource.RLIMIT_CORE, (0, 0))
-    print("| scenario | instructions for one more SDU | s at 10,000 | MiB | s at 100,000 | MiB |")
-    print("|---|---|---|---|---|---|")
+    print("| scenario | instructions for one more SDU | " + " | ".join(f"s at {count:,} | MiB" for count in COUNTS) + " |")
+    print("|---" * (2 + 2 * len(COUNTS)) + "|")
     for name, words, plain_words in SCENARIOS:
-        ours = measured([rlemu, "run"], make, work, words) or [None] * 5
-        theirs = [None] * 5
+        ours = measured([rlemu, "run"], make, work, words) or NONE
+        theirs = NONE
         if plain_words:
-            theirs = measured([plain] + plain_words, make, work, words) or [None] * 5
-        forms = ["{:,.0f}", "{:.2f}", "{:.0f}", "{:.2f}", "{:.0f}"]
+            theirs = measured([plain] + plain_words, make, work, words) or NONE
+        forms = ["{:,.0f}"] + ["{:.2f}", "{:,.0f}"] * len(COUNTS)
         print(f"| {name} | " + " | ".join(cell(*each) for each in zip(ours, theirs, forms)) + " |", flush=True)
         if plain_words:
             print("| - the plain program | " + " | ".join(cell(t, None, f) for t, f in zip(theirs, forms)) + " |", flush=True)
-    print()
-    enrolments([rlemu, "run"], make, work)
+    for table in (idle_flows, allocations, enrolments):
+        print()
+        table([rlemu, "run"], make, work)
 
 
 main()

@@ -1,7 +1,8 @@
 #!/bin/sh
 # Measures rlemu beside a plain program of the same work (baseline.rs), and prints one table: for each scenario the
-# instructions for one more SDU, seconds, and peak memory, each with its ratio to the plain program. Then it measures rlemu alone where members enrol, since the
-# plain program has no management, and prints a second table. Wants valgrind, rustc and python3. Takes some minutes.
+# instructions for one more SDU, seconds, and peak memory, each with its ratio to the plain program. Then it measures rlemu alone beside idle flows, where flows
+# are allocated and where members enrol, since the plain program has none of these, and prints a table for each. Wants valgrind, rustc and python3, and 8 GB of
+# memory. Takes some minutes.
 #
 #   bench/run.sh [PROGRAM]      PROGRAM: an rlemu that is built; otherwise bin/rlemu builds it
 top=$(cd "$(dirname "$0")/.." && pwd) || exit 2
