@@ -21,6 +21,7 @@ pub record AreWeights (start : ℕ) (edges : List Edge) (nodes : ℕ) (weights :
 abbrev pub ends_cmp : ℕ × ℕ → ℕ × ℕ → Ordering
 ends_cmp k l = ordering_then (nat_cmp k.0 l.0) (nat_cmp k.1 l.1)
 
+-- the link that is kept for a neighbour and a weight
 abbrev pub link_at : List ((ℕ × ℕ) × ℕ) → ℕ × ℕ → Option ℕ
 link_at least ends = lookup (is_at (ends_cmp ends)) least
 
